@@ -1,5 +1,6 @@
 //! Rows that are looked at where they stand packed, type by type: a field of all records, the lists, the sets and maps; and by
-//! them closedness, and whether a type has the same rows in two states.
+//! them closedness, and whether a type has the same rows in two states. `TypeRows` and `TypeColumns` are the rows of a type as
+//! others see them.
 #![tactic(auto)]
 
 mod closed;

@@ -1,4 +1,4 @@
-//! The rows of one type in one state: how blobs lay them out, and what they add up to.
+//! The rows of one type in one state: how blobs lay them out, what they add up to, and the fault that refuses them.
 #![tactic(auto)]
 
 mod count;

@@ -8,7 +8,7 @@ use Rattle.row_model.specs.Table.{RowMap}
 use Rattle.type_rows.proofs.Entries.{below_bound, found_live, greatest, least_bound}
 use Rattle.column_rows.specs.OneType.{IsRowsBound}
 use Rattle.type_state.specs.declared.differences.Differences.{Differences}
-use Rattle.type_state.specs.Differences.{AreApart, AreBelow, rows_with}
+use Rattle.type_state.specs.Differences.{AreApart, AreBelow, rows_with, added_of, removed_of}
 use Rattle.type_state.proofs.DifferingRows.{with_neither}
 use Rattle.type_state.proofs.Lookups.{found_below}
 
@@ -26,12 +26,12 @@ pub bound_of_rows : (rows : RowMap) (bound : ℕ) → IsRowsBound rows bound →
 bound_of_rows rows bound is = least_bound rows bound is.above is.least
 
 -- Above both parts of the differences, and above the old rows, none stands.
-pub none_above : (rows : RowMap) (ds : Differences) (bound above : ℕ) → AreApart ds → bound ≡ bound_of (keys rows) → bound ≤ above → AreBelow above ds.added.items → AreBelow bound ds.removed.items → (o : ℕ) → IsSome (get (rows_with rows ds) o) → o < above
+pub none_above : (rows : RowMap) (ds : Differences) (bound above : ℕ) → AreApart ds → bound ≡ bound_of (keys rows) → bound ≤ above → AreBelow above (added_of ds) → AreBelow bound (removed_of ds) → (o : ℕ) → IsSome (get (rows_with rows ds) o) → o < above
 none_above rows ds bound above a is le added removed o live =
-    elim (find nat_cmp o ds.added.items) as (λ f. find nat_cmp o ds.added.items ≡ f → o < above) [
-      | Some r ↦ λ at. found_below o above ds.added.items added (ap is_some at)
-      | None ↦ λ none. elim (find nat_cmp o ds.removed.items) as (λ f. find nat_cmp o ds.removed.items ≡ f → o < above) [
-        | Some r ↦ λ at. (let low = found_below o bound ds.removed.items removed (ap is_some at) in omega (arith, low, le))
+    elim (find nat_cmp o (added_of ds)) as (λ f. find nat_cmp o (added_of ds) ≡ f → o < above) [
+      | Some r ↦ λ at. found_below o above (added_of ds) added (ap is_some at)
+      | None ↦ λ none. elim (find nat_cmp o (removed_of ds)) as (λ f. find nat_cmp o (removed_of ds) ≡ f → o < above) [
+        | Some r ↦ λ at. (let low = found_below o bound (removed_of ds) removed (ap is_some at) in omega (arith, low, le))
         | None ↦ λ gone. (let low = below_bound rows o (subst IsSome (with_neither rows ds o a none gone) live) in omega (arith, low, is, le))
       ] refl
     ] refl

@@ -1,6 +1,6 @@
 -- What is told of the rows that others are moved to by those that come and go, and by the last one.
-use Rattle.std.proofs.Common.{◌≡◌, ℕ, ◌+◌, ◌-◌, ◌*◌, ◌<◌, ◌≤◌, List, [], length, get_or, Option, None, Some, Result, Ok, Err, refl, ap, sym, subst, ◌∙◌, arith}
-use Rattle.std.specs.Prelude.{Bool, IfOk, is_some, IsSome, IsTrue, slice_index, sum_by}
+use Rattle.std.proofs.Common.{◌≡◌, inl, inr, map, ℕ, ◌+◌, ◌-◌, ◌*◌, ◌<◌, ◌≤◌, List, [], length, get_or, Option, None, Some, Result, Ok, Err, refl, ap, sym, subst, ◌∙◌, arith}
+use Rattle.std.specs.Prelude.{Bool, IfOk, IsTrue, slice_index, sum_by}
 use Rattle.std.specs.Option.{option_map_or}
 use Rattle.std.specs.Ordering.{nat_cmp}
 use Rattle.std.specs.FinMap.{entries, find, get, get-entries, values}
@@ -20,11 +20,14 @@ use Rattle.type_rows.specs.Layout.{Layout, item_bits, items_of_row, places_count
 use Rattle.type_rows.specs.WordsHeld.{part_bytes, row_bytes}
 use Rattle.type_rows.specs.Totals.{AreTotals, HasParts}
 use Rattle.type_rows.proofs.Entries.{entries_rise}
-use Rattle.type_rows.proofs.Rising.{RiseFrom, from_sorted, none_is_not}
+use Rattle.type_rows.proofs.Rising.{RiseFrom, from_sorted}
 use Rattle.type_state.specs.declared.differences.Differences.{Differences}
-use Rattle.type_state.specs.Differences.{AreApart, differing, rows_with}
+use Rattle.type_state.specs.Differences.{AreApart, added_of, differing, removal, removed_of, rows_with}
 use Rattle.type_state.specs.Moving.{IsHeld}
-use Rattle.type_state.specs.Counted.{AgreeAt, ComeFitting, FitsSomewhere, HoldsLast, IsComing, IsCounted, StayFitting}
+use Rattle.type_state.specs.Counted.{AgreeAt, AreFitting, ComeFitting, FitsSomewhere, HoldsLast, IsComing, IsCounted, StayFitting}
+use Rattle.type_rows.proofs.Removal.{has_or}
+use Rattle.type_state.proofs.Comings.{not_removed}
+use Rattle.type_state.proofs.Moves.{removed_found}
 use Rattle.type_state.proofs.DifferingRows.{either, get_differing, with_added, with_neither, with_removed}
 use Rattle.type_state.proofs.Lookups.{found_at}
 use Rattle.type_state.proofs.RowSums.{no_more}
@@ -46,46 +49,37 @@ has_parts (Shape.Map key value) count _ is kind = absurd kind
 found_there : (ds : List Difference) (k : ℕ) (d : Difference) → RiseFrom 0 (keys_of ds) → k < length ds → find nat_cmp (get_or ds k d).0 ds ≡ Some (get_or ds k d).1
 found_there ds k d rise inside = found_at 0 ds (get_or ds k d).0 k d rise inside refl
 
-pub added_coming : (shape : Shape) (rows : RowMap) (ds : Differences) → AreApart ds → AreOfKind shape (rows_with rows ds) → (k : ℕ) (d : Difference) → k < length ds.added.items → IsComing shape (get_or ds.added.items k d)
+pub added_coming : (shape : Shape) (rows : RowMap) (ds : Differences) → AreApart ds → AreOfKind shape (rows_with rows ds) → (k : ℕ) (d : Difference) → k < length (added_of ds) → IsComing shape (get_or (added_of ds) k d)
 added_coming shape rows ds apart kinds k d inside row is =
-    let e = get_or ds.added.items k d in
-    kinds e.0 row (with_added rows ds e.0 e.1 apart (found_there ds.added.items k d (from_sorted (keys_of ds.added.items) apart.added) inside) ∙ is)
-
-not_added : (ds : Differences) (o : ℕ) → AreApart ds → IsSome (find nat_cmp o ds.removed.items) → find nat_cmp o ds.added.items ≡ None
-not_added ds o apart live = elim (find nat_cmp o ds.added.items) as (λ (f : Option (Option Row)). find nat_cmp o ds.added.items ≡ f → f ≡ None) [
-  | None ↦ λ is. refl
-  | Some slot ↦ λ is. absurd (none_is_not (find nat_cmp o ds.removed.items) (apart.apart o (ap is_some is)) live)
-] refl
-
-pub removed_coming : (shape : Shape) (rows : RowMap) (ds : Differences) → AreApart ds → AreOfKind shape (rows_with rows ds) → (k : ℕ) (d : Difference) → k < length ds.removed.items → IsComing shape (get_or ds.removed.items k d)
-removed_coming shape rows ds apart kinds k d inside row is =
-    let e = get_or ds.removed.items k d in
-    let at = found_there ds.removed.items k d (from_sorted (keys_of ds.removed.items) apart.removed) inside in
-    kinds e.0 row (with_removed rows ds e.0 e.1 apart (not_added ds e.0 apart (ap is_some at)) at ∙ is)
-
--- What the differences bring stands there.
-pub added_stands : (rows : RowMap) (ds : Differences) → AreApart ds → (k : ℕ) (d : Difference) → k < length ds.added.items → get (rows_with rows ds) (get_or ds.added.items k d).0 ≡ (get_or ds.added.items k d).1
-added_stands rows ds apart k d inside =
-    let e = get_or ds.added.items k d in
-    with_added rows ds e.0 e.1 apart (found_there ds.added.items k d (from_sorted (keys_of ds.added.items) apart.added) inside)
-
-pub removed_stands : (rows : RowMap) (ds : Differences) → AreApart ds → (k : ℕ) (d : Difference) → k < length ds.removed.items → get (rows_with rows ds) (get_or ds.removed.items k d).0 ≡ (get_or ds.removed.items k d).1
-removed_stands rows ds apart k d inside =
-    let e = get_or ds.removed.items k d in
-    let at = found_there ds.removed.items k d (from_sorted (keys_of ds.removed.items) apart.removed) inside in
-    with_removed rows ds e.0 e.1 apart (not_added ds e.0 apart (ap is_some at)) at
+    let e = get_or (added_of ds) k d in
+    kinds e.0 row (with_added rows ds e.0 e.1 apart (found_there (added_of ds) k d (from_sorted (keys_of (added_of ds)) apart.added) inside) ∙ is)
 
 -- Under the added ordinals the removal changes nothing.
-pub agree_added : (rows : RowMap) (ds : Differences) → AreApart ds → AgreeAt (differing rows ds.removed.items) rows ds.added.items
-agree_added rows ds apart o live = get_differing 0 rows ds.removed.items o (from_sorted (keys_of ds.removed.items) apart.removed) ∙ ap (λ f. either f (get rows o)) (apart.apart o live)
+pub agree_added : (rows : RowMap) (ds : Differences) → AreApart ds → AgreeAt (differing rows (removed_of ds)) rows (added_of ds)
+agree_added rows ds apart o live = get_differing 0 rows (removed_of ds) o (from_sorted (keys_of (removed_of ds)) apart.removed) ∙ ap (λ f. either f (get rows o)) (apart.apart o live)
 
 -- The differences of both parts are counted.
-pub both_counted : (rows : RowMap) (ds : Differences) (removed added : List Difference) (before middle after : Totals) → AreApart ds → removed ≡ ds.removed.items → added ≡ ds.added.items → IsCounted rows removed before middle → IsCounted rows added middle after
-    → AreTotals (values rows) before → AreTotals (values (rows_with rows ds)) after
-both_counted rows ds removed added before middle after apart gone came one two are =
-    let first = subst (λ (xs : List Difference). AreTotals (values (differing rows xs)) middle) gone (one.counted rows are (λ o live. refl)) in
-    let agree = subst (AgreeAt (differing rows ds.removed.items) rows) (sym came) (agree_added rows ds apart) in
-    subst (λ (xs : List Difference). AreTotals (values (differing (differing rows ds.removed.items) xs)) after) came (two.counted (differing rows ds.removed.items) first agree)
+pub both_counted : {E : Type 0} (rows : RowMap) (ds : Differences) (removed : List Difference) (before middle after : Totals) (result : Result Bool E) → AreApart ds → removed ≡ removed_of ds → IsCounted rows removed before middle → AreTotals (values rows) before
+    → IfOk result (λ fit. IsTrue fit → IsCounted rows (added_of ds) middle after) → IfOk result (λ fit. IsTrue fit → AreTotals (values (rows_with rows ds)) after)
+both_counted rows ds removed before middle after (Ok fit) apart gone one are two = λ t.
+    (let first = subst (λ (xs : List Difference). AreTotals (values (differing rows xs)) middle) gone (one.counted rows are (λ o live. refl)) in
+    (two t).counted (differing rows (removed_of ds)) first (agree_added rows ds apart))
+both_counted rows ds removed before middle after (Err e) apart gone one are two = tt
+
+-- No row is among those that are removed.
+none_comes : (os : List ℕ) (o : ℕ) (row : Row) → find nat_cmp o (map removal os) ≡ Some (Some row) → ⊥
+none_comes os o row at = elim (has_or os o) [
+  | inl there ↦ (let is : Some None ≡ Some (Some row) = sym (removed_found os o there) ∙ at in absurd cc)
+  | inr out ↦ (let is : None ≡ Some (Some row) = sym (not_removed os o out) ∙ at in absurd cc)
+]
+
+pub come_fitting : {E : Type 0} (shape : Shape) (widths : List ℕ) (ds : Differences) (result : Result Bool E) → IfOk result (λ fit. IsTrue fit → AreFitting shape widths (added_of ds)) → IfOk result (λ fit. IsTrue fit → ComeFitting shape widths ds)
+come_fitting shape widths ds (Ok fit) come = λ t. record { removed = λ o row at. absurd (none_comes ds.patch.now.removed o row at); added = come t }
+come_fitting shape widths ds (Err e) come = tt
+
+pub long_both : {E : Type 0} (after middle before fields : ℕ) (result : Result Bool E) → middle ≡ before → before ≡ fields → IfOk result (λ fit. IsTrue fit → after ≡ middle) → IfOk result (λ fit. IsTrue fit → after ≡ fields)
+long_both after middle before fields (Ok fit) one two more = λ t. more t ∙ one ∙ two
+long_both after middle before fields (Err e) one two more = tt
 
 -- ---- the last row, off and on again
 
@@ -105,14 +99,14 @@ totals_again shape own layout rows o last sums after at are h = record {
 
 -- ---- each row fits
 
-module _ (shape : Shape) (own : ℕ) (layout : Layout) (old : RowMap) (ds : Differences) (apart : AreApart ds) (stay : StayFitting shape layout.widths ds.removed.items old) (come : ComeFitting shape layout.widths ds) where
+module _ (shape : Shape) (own : ℕ) (layout : Layout) (old : RowMap) (ds : Differences) (apart : AreApart ds) (stay : StayFitting shape layout.widths (removed_of ds) old) (come : ComeFitting shape layout.widths ds) where
   fits_there : (ends : ℕ → ℕ) (items : ℕ) (row last : Row) → IsOfKind shape last → FitsRow shape layout.widths ends items last → FitsSomewhere shape layout.widths row → FitsRow shape layout.widths ends items row
   fits_there ends items row last kind fits was = fits_beside shape layout.widths was.ends ends was.items items row last kind was.fits fits
 
   each_fits : (ends : ℕ → ℕ) (items : ℕ) (last : Row) → IsOfKind shape last → FitsRow shape layout.widths ends items last → (o : ℕ) (row : Row) → get (rows_with old ds) o ≡ Some row → FitsRow shape layout.widths ends items row
-  each_fits ends items last kind fits o row at = elim (find nat_cmp o ds.added.items) as (λ (f : Option (Option Row)). find nat_cmp o ds.added.items ≡ f → FitsRow shape layout.widths ends items row) [
+  each_fits ends items last kind fits o row at = elim (find nat_cmp o (added_of ds)) as (λ (f : Option (Option Row)). find nat_cmp o (added_of ds) ≡ f → FitsRow shape layout.widths ends items row) [
     | Some slot ↦ λ is. fits_there ends items row last kind fits (come.added o row (is ∙ ap Some (sym (with_added old ds o slot apart is) ∙ at)))
-    | None ↦ λ none. elim (find nat_cmp o ds.removed.items) as (λ (f : Option (Option Row)). find nat_cmp o ds.removed.items ≡ f → FitsRow shape layout.widths ends items row) [
+    | None ↦ λ none. elim (find nat_cmp o (removed_of ds)) as (λ (f : Option (Option Row)). find nat_cmp o (removed_of ds) ≡ f → FitsRow shape layout.widths ends items row) [
       | Some slot ↦ λ is. fits_there ends items row last kind fits (come.removed o row (is ∙ ap Some (sym (with_removed old ds o slot apart none is) ∙ at)))
       | None ↦ λ gone. fits_there ends items row last kind fits (stay o row (sym (with_neither old ds o apart none gone) ∙ at) gone)
     ] refl

@@ -12,6 +12,9 @@ use Rattle.row_model.specs.declared.row.Row.{Row}
 use Rattle.row_model.specs.Table.{RowMap}
 use Rattle.type_rows.specs.declared.totals.Totals.{Totals}
 use Rattle.type_rows.specs.Differing.{Difference, differ_at}
+use Rattle.type_rows.specs.Ends.{FitsBehind}
+use Rattle.type_rows.specs.Layout.{items_of_row}
+use Rattle.type_rows.specs.WordsHeld.{part_bytes}
 use Rattle.type_rows.specs.Totals.{AreLess, AreMore, AreTotals}
 use Rattle.type_rows.proofs.Rising.{from_sorted}
 use Rattle.type_state.specs.Differences.{differing}
@@ -35,15 +38,22 @@ nothing_less totals stood nothing = record {
   long = refl;
 }
 
--- The differences below an index are counted, and what comes by them fits.
-pub record Counting (shape : Shape) (widths : List ℕ) (rows : RowMap) (ds : List Difference) (initial now : Totals) (index : ℕ) : Type 0 where
+-- Nothing is added to totals.
+pub nothing_more : (totals : Totals) → AreMore totals None totals
+nothing_more totals = record { ends = λ field. omega arith; items = omega arith; bytes = omega arith; long = refl }
+
+-- The differences below an index are counted.
+pub record Counting (rows : RowMap) (ds : List Difference) (initial now : Totals) (index : ℕ) : Type 0 where
   pub totals : (others : RowMap) → AreTotals (values others) initial → AgreeAt others rows ds → AreTotals (values (differing others (take index ds))) now
-  pub fits : (k : ℕ) (row : Row) → k < index → (get_or ds k (0, None)).1 ≡ Some row → FitsSomewhere shape widths row
   pub long : length now.ends.offsets.items ≡ length initial.ends.offsets.items
 
-pub begun : (shape : Shape) (widths : List ℕ) (rows : RowMap) (ds : List Difference) (initial : Totals) → Counting shape widths rows ds initial initial 0
+-- What comes by them fits.
+abbrev pub Fitting : Shape → List ℕ → List Difference → ℕ → Type 0
+Fitting shape widths ds index = (k : ℕ) (row : Row) → k < index → (get_or ds k (0, None)).1 ≡ Some row → FitsSomewhere shape widths row
+
+pub begun : (rows : RowMap) (ds : List Difference) (initial : Totals) → Counting rows ds initial initial 0
 unfolding differing
-begun shape widths rows ds initial = record { totals = λ others are agree. are; fits = λ k row inside. absurd (omega arith); long = refl }
+begun rows ds initial = record { totals = λ others are agree. are; long = refl }
 
 same_there : (ds : List Difference) (k : ℕ) (d e : Difference) → k < length ds → get_or ds k d ≡ get_or ds k e
 same_there [] k d e inside = absurd (omega arith)
@@ -61,9 +71,9 @@ stands rows ds index e sorted inside = get_apart rows (take index ds) (get_or ds
     omega (arith, rise, key, same, mine))
 
 -- One more is counted.
-pub counted_more : (shape : Shape) (widths : List ℕ) (rows : RowMap) (ds : List Difference) (initial now middle after : Totals) (index : ℕ) (d : Difference) → Counting shape widths rows ds initial now index → IsStrictlySortedBy nat_cmp (keys_of ds) → index < length ds
-    → d ≡ get_or ds index d → AreLess now (get rows d.0) middle → AreMore middle d.1 after → ((row : Row) → d.1 ≡ Some row → FitsSomewhere shape widths row) → Counting shape widths rows ds initial after (index + 1)
-counted_more shape widths rows ds initial now middle after index d c sorted inside is less more comes = record {
+pub counted_more : (rows : RowMap) (ds : List Difference) (initial now middle after : Totals) (index : ℕ) (d : Difference) → Counting rows ds initial now index → IsStrictlySortedBy nat_cmp (keys_of ds) → index < length ds
+    → d ≡ get_or ds index d → AreLess now (get rows d.0) middle → AreMore middle d.1 after → Counting rows ds initial after (index + 1)
+counted_more rows ds initial now middle after index d c sorted inside is less more = record {
   totals = λ others are agree.
       (let at : find nat_cmp d.0 ds ≡ Some (get_or ds index d).1 = found_at 0 ds d.0 index d (from_sorted (keys_of ds) sorted) inside (ap (λ (f : Difference). f.0) (sym is)) in
       let live : IsSome (find nat_cmp d.0 ds) = ap is_some at in
@@ -71,20 +81,24 @@ counted_more shape widths rows ds initial now middle after index d c sorted insi
       sym (agree d.0 live) ∙ ap (get others) (ap (λ (f : Difference). f.0) is) ∙ sym (stands others ds index d sorted inside) ∙ ap (get (differing others (take index ds))) (ap (λ (f : Difference). f.0) (sym is)) in
       let step = totals_differ (differing others (take index ds)) d (get rows d.0) now middle after there (c.totals others are agree) less more in
       subst (λ (m : RowMap). AreTotals (values m) after) (sym (differing_more others ds index d inside ∙ ap (differ_at (differing others (take index ds))) (sym is))) step);
-  fits = λ k row below at. elim (cases_lt k index) [
-    | inl before ↦ c.fits k row before at
-    | inr last ↦
-        (let same : k ≡ index = omega arith in
-        let key = ap (λ i. (get_or ds i (0, None)).1) same in
-        let mine = ap (λ (f : Difference). f.1) (is ∙ same_there ds index d (0, None) inside) in
-        comes row (mine ∙ sym key ∙ at))
-  ];
   long = more.long ∙ less.long ∙ c.long;
 }
 
+-- What comes by one more fits too.
+pub fits_more : (shape : Shape) (widths : List ℕ) (ds : List Difference) (index : ℕ) (d : Difference) → Fitting shape widths ds index → index < length ds → d ≡ get_or ds index d → ((row : Row) → d.1 ≡ Some row → FitsSomewhere shape widths row)
+    → Fitting shape widths ds (index + 1)
+fits_more shape widths ds index d fit inside is comes k row below at = elim (cases_lt k index) [
+  | inl before ↦ fit k row before at
+  | inr last ↦
+      (let same : k ≡ index = omega arith in
+      let key = ap (λ i. (get_or ds i (0, None)).1) same in
+      let mine = ap (λ (f : Difference). f.1) (is ∙ same_there ds index d (0, None) inside) in
+      comes row (mine ∙ sym key ∙ at))
+]
+
 -- All are counted.
-pub all_counted : (shape : Shape) (widths : List ℕ) (rows : RowMap) (ds : List Difference) (initial now : Totals) (index : ℕ) → Counting shape widths rows ds initial now index → length ds ≤ index → IsCounted rows ds initial now
-all_counted shape widths rows ds initial now index c past = record {
+pub all_counted : (rows : RowMap) (ds : List Difference) (initial now : Totals) (index : ℕ) → Counting rows ds initial now index → length ds ≤ index → IsCounted rows ds initial now
+all_counted rows ds initial now index c past = record {
   counted = λ others are agree. subst (λ (xs : List Difference). AreTotals (values (differing others xs)) now) (take_all index ds past) (c.totals others are agree);
 }
 
@@ -101,6 +115,12 @@ place_of (d ∷ ds) o slot at = elim (cases_eq o d.0) [
   | inr other ↦ (let rest = place_of ds o slot (sym (skipped o d ds other) ∙ at) in record { place = suc rest.place; inside = omega (arith, rest.inside); is = rest.is })
 ]
 
-pub all_fit : (shape : Shape) (widths : List ℕ) (rows : RowMap) (ds : List Difference) (initial now : Totals) (index : ℕ) → Counting shape widths rows ds initial now index → length ds ≤ index → AreFitting shape widths ds
-all_fit shape widths rows ds initial now index c past o row at =
-    let there = place_of ds o (Some row) at in c.fits there.place row (omega (arith, there.inside)) there.is
+pub all_fit : (shape : Shape) (widths : List ℕ) (ds : List Difference) (index : ℕ) → Fitting shape widths ds index → length ds ≤ index → AreFitting shape widths ds
+all_fit shape widths ds index fit past o row at =
+    let there = place_of ds o (Some row) at in fit there.place row (omega (arith, there.inside)) there.is
+
+-- A row that fits behind others fits.
+pub fits_so : (shape : Shape) (widths : List ℕ) (before : Totals) (made row : Row) → Some made ≡ Some row → FitsBehind shape widths before.ends.offsets.items before.ends.items made → FitsSomewhere shape widths row
+fits_so shape widths before made row same fits =
+    let is : made ≡ row = cc in
+    subst (FitsSomewhere shape widths) is record { ends = λ f. slice_index before.ends.offsets.items f + part_bytes f made; items = before.ends.items + items_of_row made; fits = fits }

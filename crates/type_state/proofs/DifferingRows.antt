@@ -1,6 +1,6 @@
 -- Rows with differences: what is found under an ordinal.
-use Rattle.std.proofs.Common.{◌≡◌, ℕ, ◌+◌, inl, inr, List, [], ◌∷◌, Option, None, Some, refl, ap, sym, subst, ◌∙◌, arith}
-use Rattle.std.specs.Prelude.{◌↔◌, Bool, IsSome, IsTrue, MatchOption, is_some}
+use Rattle.std.proofs.Common.{◌≡◌, ℕ, ◌+◌, inl, inr, List, [], ◌∷◌, Option, None, Some, refl, ap, sym, ◌∙◌, arith}
+use Rattle.std.specs.Prelude.{is_some}
 use Rattle.std.specs.Option.{option_map_or}
 use Rattle.std.specs.Ordering.{nat_cmp}
 use Rattle.std.specs.FinMap.{find, get}
@@ -12,7 +12,7 @@ use Rattle.type_rows.specs.Differing.{Difference, differ_at}
 use Rattle.type_rows.proofs.Rising.{RiseFrom, from_sorted}
 use Rattle.type_rows.proofs.DifferingAt.{differs_here, differs_there}
 use Rattle.type_state.specs.declared.differences.Differences.{Differences}
-use Rattle.type_state.specs.Differences.{AreApart, differing, rows_with}
+use Rattle.type_state.specs.Differences.{AreApart, differing, rows_with, added_of, removed_of}
 use Rattle.type_state.proofs.Lookups.{found, none_below, skipped}
 
 -- what stands under an ordinal: what a difference says, and else what stood there
@@ -35,41 +35,30 @@ get_differing low rows (d ∷ ds) q rise =
 
 -- ---- both parts
 
-pub get_with : (rows : RowMap) (ds : Differences) → AreApart ds → (q : ℕ) → get (rows_with rows ds) q ≡ either (find nat_cmp q ds.added.items) (either (find nat_cmp q ds.removed.items) (get rows q))
+pub get_with : (rows : RowMap) (ds : Differences) → AreApart ds → (q : ℕ) → get (rows_with rows ds) q ≡ either (find nat_cmp q (added_of ds)) (either (find nat_cmp q (removed_of ds)) (get rows q))
 get_with rows ds a q =
-    get_differing 0 (differing rows ds.removed.items) ds.added.items q (from_sorted (keys_of ds.added.items) a.added)
-    ∙ ap (either (find nat_cmp q ds.added.items)) (get_differing 0 rows ds.removed.items q (from_sorted (keys_of ds.removed.items) a.removed))
+    get_differing 0 (differing rows (removed_of ds)) (added_of ds) q (from_sorted (keys_of (added_of ds)) a.added)
+    ∙ ap (either (find nat_cmp q (added_of ds))) (get_differing 0 rows (removed_of ds) q (from_sorted (keys_of (removed_of ds)) a.removed))
 
 -- ---- what a look-up finds
 
-pub with_added : (rows : RowMap) (ds : Differences) (q : ℕ) (r : Option Row) → AreApart ds → find nat_cmp q ds.added.items ≡ Some r → get (rows_with rows ds) q ≡ r
-with_added rows ds q r a is = get_with rows ds a q ∙ ap (λ f. either f (either (find nat_cmp q ds.removed.items) (get rows q))) is
+pub with_added : (rows : RowMap) (ds : Differences) (q : ℕ) (r : Option Row) → AreApart ds → find nat_cmp q (added_of ds) ≡ Some r → get (rows_with rows ds) q ≡ r
+with_added rows ds q r a is = get_with rows ds a q ∙ ap (λ f. either f (either (find nat_cmp q (removed_of ds)) (get rows q))) is
 
-pub with_removed : (rows : RowMap) (ds : Differences) (q : ℕ) (r : Option Row) → AreApart ds → find nat_cmp q ds.added.items ≡ None → find nat_cmp q ds.removed.items ≡ Some r → get (rows_with rows ds) q ≡ r
+pub with_removed : (rows : RowMap) (ds : Differences) (q : ℕ) (r : Option Row) → AreApart ds → find nat_cmp q (added_of ds) ≡ None → find nat_cmp q (removed_of ds) ≡ Some r → get (rows_with rows ds) q ≡ r
 with_removed rows ds q r a none is =
-    get_with rows ds a q ∙ ap (λ f. either f (either (find nat_cmp q ds.removed.items) (get rows q))) none ∙ ap (λ f. either f (get rows q)) is
+    get_with rows ds a q ∙ ap (λ f. either f (either (find nat_cmp q (removed_of ds)) (get rows q))) none ∙ ap (λ f. either f (get rows q)) is
 
-pub with_neither : (rows : RowMap) (ds : Differences) (q : ℕ) → AreApart ds → find nat_cmp q ds.added.items ≡ None → find nat_cmp q ds.removed.items ≡ None → get (rows_with rows ds) q ≡ get rows q
+pub with_neither : (rows : RowMap) (ds : Differences) (q : ℕ) → AreApart ds → find nat_cmp q (added_of ds) ≡ None → find nat_cmp q (removed_of ds) ≡ None → get (rows_with rows ds) q ≡ get rows q
 with_neither rows ds q a none gone =
-    get_with rows ds a q ∙ ap (λ f. either f (either (find nat_cmp q ds.removed.items) (get rows q))) none ∙ ap (λ f. either f (get rows q)) gone
+    get_with rows ds a q ∙ ap (λ f. either f (either (find nat_cmp q (removed_of ds)) (get rows q))) none ∙ ap (λ f. either f (get rows q)) gone
 
 -- Nothing is added under an ordinal that is removed.
-unadded : (ds : Differences) (q : ℕ) (r : Option Row) → AreApart ds → find nat_cmp q ds.removed.items ≡ Some r → find nat_cmp q ds.added.items ≡ None
-unadded ds q r a at = elim (find nat_cmp q ds.added.items) as (λ f. find nat_cmp q ds.added.items ≡ f → f ≡ None) [
+unadded : (ds : Differences) (q : ℕ) (r : Option Row) → AreApart ds → find nat_cmp q (removed_of ds) ≡ Some r → find nat_cmp q (added_of ds) ≡ None
+unadded ds q r a at = elim (find nat_cmp q (added_of ds)) as (λ f. find nat_cmp q (added_of ds) ≡ f → f ≡ None) [
   | None ↦ λ none. refl
   | Some s ↦ λ there. absurd (false≢true (ap is_some (sym (a.apart q (ap is_some there)) ∙ at)))
 ] refl
 
-pub with_gone : (rows : RowMap) (ds : Differences) (q : ℕ) (r : Option Row) → AreApart ds → find nat_cmp q ds.removed.items ≡ Some r → get (rows_with rows ds) q ≡ r
+pub with_gone : (rows : RowMap) (ds : Differences) (q : ℕ) (r : Option Row) → AreApart ds → find nat_cmp q (removed_of ds) ≡ Some r → get (rows_with rows ds) q ≡ r
 with_gone rows ds q r a at = with_removed rows ds q r a (unadded ds q r a at) at
-
--- An answer that tells whether a row is there.
-pub live_by : (there row : Option Row) (answer : Bool) → there ≡ row → answer ≡ is_some row → IsTrue answer ↔ IsSome there
-live_by there row answer is told = (λ t. subst IsSome (sym is) (sym told ∙ t), λ some. told ∙ subst IsSome is some)
-
--- Where none is added under an ordinal, a removed one tells what stands there, and else what stood there does.
-pub behind_added : {B : Type 0} (rows : RowMap) (ds : Differences) (q : ℕ) (row_of : B → Option Row) (found : Option B) → AreApart ds → find nat_cmp q ds.added.items ≡ None
-    → MatchOption found (find nat_cmp q ds.removed.items ≡ None) (λ b. find nat_cmp q ds.removed.items ≡ Some (row_of b))
-    → MatchOption found (get (rows_with rows ds) q ≡ get rows q) (λ b. get (rows_with rows ds) q ≡ row_of b)
-behind_added rows ds q row_of None a none gone = with_neither rows ds q a none gone
-behind_added rows ds q row_of (Some b) a none is = with_removed rows ds q (row_of b) a none is

@@ -1,13 +1,12 @@
 -- Halves of OBJECT types without STRING and BYTES: their records are those of their rows, and records that are those of rows make up a half.
 use Rattle.std.proofs.Common.{◌≡◌, ℕ, suc, ◌+◌, ◌-◌, ◌*◌, ◌/◌, ◌^◌, ◌<◌, ◌≤◌, ◌++◌, inl, inr, min, List, [], ◌∷◌, length, get_or, take, drop, Option, None, Some, refl, ap, sym, subst, ◌∙◌, arith}
-use Rattle.std.specs.Prelude.{IsSome, is_some, replicate, slice_get, sum}
+use Rattle.std.specs.Prelude.{IsSome, is_some, replicate, sum}
 use Rattle.std.specs.List.{AllZip}
 use Rattle.std.specs.FinMap.{entries, get, get-entries, keys, values}
 use Rattle.std.proofs.lemmas.Bool.{cases_lt}
 use Rattle.std.proofs.lemmas.List.{drop-replicate, get_or-map, length-append, length-map, length-replicate, length-take-le, take-append-drop, take-replicate, take-take}
 use Rattle.std.proofs.lemmas.List.Elements.{All-contains}
-use Rattle.std.proofs.lemmas.List.FromFn.{get_or-map-range_with_len, length-map-range_with_len}
-use Rattle.std.proofs.lemmas.Option.{slice_get-get_or}
+use Rattle.std.proofs.lemmas.List.FromFn.{length-map-range_with_len}
 use Rattle.std.proofs.Math.Nat.{mul-le-mul_right}
 use Rattle.std.proofs.Math.Seq.{drop-append-add, take-append-add}
 use Rattle.schema_model.specs.declared.schema.Field.{Field}
@@ -22,9 +21,8 @@ use Rattle.record_copies.proofs.RecordBits.{empty_place}
 use Rattle.packed_half.specs.declared.half.HalfShape.{HalfShape}
 use Rattle.packed_half.specs.Half.{areas_in, behind_items, item_words, place_words, section_in, words_for, words_for_bytes}
 use Rattle.packed_half.specs.LaidOut.{IsLaidOut, IsTight, lengths_of}
-use Rattle.packed_half.specs.Laying.{ArePlaced, CanLay, parts_in, places_in}
+use Rattle.packed_half.specs.Laying.{ArePlaced, CanLay, parts_in}
 use Rattle.packed_half.proofs.Parted.{IsCut, cut_zeros, whole}
-use Rattle.packed_half.proofs.PlacedRecords.{can_pack}
 use Rattle.type_rows.specs.Layout.{places_of}
 use Rattle.type_rows.specs.Loads.{Spells}
 use Rattle.type_rows.specs.WellFormed.{IsWidth}
@@ -32,7 +30,7 @@ use Rattle.type_rows.proofs.Entries.{entries_rise}
 use Rattle.type_rows.proofs.Places.{wide_long}
 use Rattle.type_rows.proofs.Rising.{none_is_not}
 use Rattle.type_state.specs.Kept.{IsHalf, IsPacked, half_rows}
-use Rattle.type_state.specs.Recorded.{AreRecorded, FitsRecord, HasPlaces, copied_words, kept_words}
+use Rattle.type_state.specs.Recorded.{AreRecorded, HasPlaces, copied_words, kept_words}
 use Rattle.type_state.proofs.Halves.{not_there}
 use Rattle.type_state.proofs.LiveSets.{live_key}
 use Rattle.type_state.proofs.Lookups.{found_at}
@@ -122,16 +120,6 @@ pub has_places : (shape : Shape) (half : HalfShape) (rows : RowMap) (first width
     → HasPlaces shape widths first places
 has_places shape half rows first widths places object fixed can long is count =
     subst (λ n. HasPlaces shape widths first n) (sym count) (subst (λ w. HasPlaces shape w first (places_of half.max)) (sym is) (object_places shape half rows first object fixed can long))
-
--- A row fits.
-pub fits_record : (shape : Shape) (half : HalfShape) (rows : RowMap) (widths : List ℕ) (places : ℕ) → IsObject shape → CanLay shape half rows → widths ≡ half.widths → places ≡ places_of half.max → (o : ℕ) (row : Row) → get rows o ≡ Some row → o < places → FitsRecord shape widths row
-fits_record shape half rows widths places object can is count o row at inside =
-    let all = places_in rows (places_of half.max) in
-    let long = length-map-range_with_len (get rows) 0 (places_of half.max) in
-    let d : Option Row = None in
-    let there : slice_get all o ≡ Some (get_or all o d) = slice_get-get_or all o d (omega (arith, long, count, inside)) in
-    let mapped : get_or all o d ≡ get rows o = get_or-map-range_with_len (get rows) 0 (places_of half.max) o o d (omega (arith, count, inside)) (omega arith) in
-    subst (λ w. FitsRecord shape w row) (sym is) (can.fits o row at, λ index. (can_pack shape half rows object can).numbers o index (Some row) (there ∙ ap Some (mapped ∙ at)))
 
 placed_object : (key : Option (List (List ℕ))) (fields : List Field) (half : HalfShape) (rows : RowMap) (first second : List ℕ) (areas : List (List ℕ)) → CanLay (Shape.Object key fields) half rows → AreRecorded (Shape.Object key fields) half.widths first (places_of half.max) rows
     → length areas ≡ length fields → ArePlaced (Shape.Object key fields) half rows first second areas

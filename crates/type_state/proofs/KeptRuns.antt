@@ -1,8 +1,8 @@
 -- Lemmas on halves whose records are copied run by run: what stands in the half before, the room for a run, and the places that are written.
 use Rattle.std.proofs.Common.{◌≡◌, ℕ, zero, suc, ◌+◌, ◌-◌, ◌*◌, ◌/◌, ◌^◌, ◌<◌, ◌≤◌, ◌⊎◌, ◌++◌, inl, inr, List, [], ◌∷◌, length, take, drop, Option, None, Some, refl, ap, sym, subst, ◌∙◌, arith, eq-eqb, ne_eqb}
-use Rattle.std.specs.Prelude.{IsSome, if◌then◌else◌, map, min, replicate, sum}
+use Rattle.std.specs.Prelude.{is_some, IsSome, if◌then◌else◌, map, min, replicate, sum}
 use Rattle.std.specs.List.{AllZip, enumerate_from, range_with_len}
-use Rattle.std.specs.List.Sorted.{IsStrictlySortedBy}
+use Rattle.std.specs.List.Sorted.{IsStrictlyIncreasing}
 use Rattle.std.specs.Map.{keys_of}
 use Rattle.std.specs.Ordering.{nat_cmp}
 use Rattle.std.specs.FinMap.{find, get}
@@ -13,7 +13,8 @@ use Rattle.std.proofs.lemmas.Grind.{flat_map-append}
 use Rattle.std.proofs.lemmas.List.{length-append, length-take, map-append, take-append-drop}
 use Rattle.std.proofs.lemmas.List.Elements.{All-contains}
 use Rattle.std.proofs.lemmas.List.FromFn.{take-map-range_with_len}
-use Rattle.std.proofs.lemmas.Option.{slice_get_within}
+use Rattle.std.proofs.lemmas.Option.{slice_get-get_or, slice_get_within}
+use Rattle.std.proofs.lemmas.Map.Keys.{sorted_from_strictly_increasing}
 use Rattle.schema_model.specs.declared.schema.Field.{Field}
 use Rattle.schema_model.specs.declared.schema.FieldKind.{FieldKind}
 use Rattle.schema_model.specs.declared.schema.Shape.{Shape}
@@ -35,18 +36,20 @@ use Rattle.packed_half.proofs.Parted.{IsCut, whole}
 use Rattle.packed_half.proofs.PlacedRecords.{can_pack, packed_lengths, record_more, record_room, records_begun, records_done, records_placed}
 use Rattle.packed_half.proofs.RowPlaces.{place_is, places_long}
 use Rattle.record_copies.specs.Run.{AreStanding, HasRunRoom, IsRunPut, rows_between, run_bytes}
-use Rattle.type_rows.specs.Differing.{Difference}
 use Rattle.type_rows.specs.Layout.{places_of}
 use Rattle.type_rows.specs.WellFormed.{IsWidth}
+use Rattle.type_rows.proofs.Removal.{has_or}
 use Rattle.type_rows.proofs.Rising.{RiseFrom, from_sorted}
 use Rattle.type_state.specs.declared.differences.Differences.{Differences}
-use Rattle.type_state.specs.Differences.{AreApart, rows_with}
+use Rattle.type_state.specs.Differences.{AreApart, IsAddedAt, added_of, coming_at, removal, removed_of, rows_with}
 use Rattle.type_state.specs.Kept.{IsHalf, IsPacked, half_rows}
-use Rattle.type_state.specs.LeftDifferences.{behind, first_ordinal, row_at, slot_at}
+use Rattle.type_state.specs.LeftDifferences.{behind, first_ordinal}
+use Rattle.type_state.proofs.Comings.{added_at, not_added, not_removed}
 use Rattle.type_state.proofs.DifferingRows.{either, get_with, with_neither}
 use Rattle.type_state.proofs.FixedHalves.{areas_long, field_widths, lengths_long, packed_by, packed_place}
 use Rattle.type_state.proofs.Halves.{not_there}
 use Rattle.type_state.proofs.Lookups.{found, none_below, skipped}
+use Rattle.type_state.proofs.Moves.{removed_found, removed_keys}
 
 -- ---- what stands in the half before
 
@@ -238,111 +241,116 @@ run_packed shape widths first first' areas areas' count place end old new done r
       bits = put.bits done.bits;
     }
 
--- ---- differences that are left
+-- ---- ordinals that are left
 
 -- they are those of all from a place on
-pub record AreLeft (place : ℕ) (all left : List Difference) : Type 0 where
-  pub rise : RiseFrom place (keys_of left)
-  pub same : (o : ℕ) → place ≤ o → find nat_cmp o left ≡ find nat_cmp o all
+pub record AreLeft (place : ℕ) (all left : List ℕ) : Type 0 where
+  pub rise : RiseFrom place left
+  pub same : (o : ℕ) → place ≤ o → find nat_cmp o (map removal left) ≡ find nat_cmp o (map removal all)
 
-pub all_left : (all : List Difference) → IsStrictlySortedBy nat_cmp (keys_of all) → AreLeft 0 all all
-all_left all sorted = record { rise = from_sorted (keys_of all) sorted; same = λ o from. refl }
+pub all_left : (all : List ℕ) → IsStrictlyIncreasing all → AreLeft 0 all all
+all_left all rise = record { rise = from_sorted all (sorted_from_strictly_increasing all rise); same = λ o from. refl }
 
-none_before : (place o : ℕ) (left : List Difference) → RiseFrom place (keys_of left) → o < first_ordinal left → find nat_cmp o left ≡ None
+keys_from : (low : ℕ) (os : List ℕ) → RiseFrom low os → RiseFrom low (keys_of (map removal os))
+keys_from low os rise = subst (RiseFrom low) (sym (removed_keys os)) rise
+
+none_before : (place o : ℕ) (left : List ℕ) → RiseFrom place left → o < first_ordinal left → find nat_cmp o (map removal left) ≡ None
 none_before place o [] rise before = refl
-none_before place o (d ∷ ds) rise before = none_below o d.0 (d ∷ ds) before (omega arith, rise.1)
+none_before place o (d ∷ ds) rise before = none_below o d (map removal (d ∷ ds)) before (omega arith, keys_from (d + 1) ds rise.1)
 
 -- up to the first one there is none
-pub none_till : (place o : ℕ) (all left : List Difference) → AreLeft place all left → place ≤ o → o < first_ordinal left → find nat_cmp o all ≡ None
+none_till : (place o : ℕ) (all left : List ℕ) → AreLeft place all left → place ≤ o → o < first_ordinal left → find nat_cmp o (map removal all) ≡ None
 none_till place o all left are from before = sym (are.same o from) ∙ none_before place o left are.rise before
 
-pub left_up : (place end : ℕ) (all left : List Difference) → AreLeft place all left → place ≤ end → end ≤ first_ordinal left → AreLeft end all left
+pub left_up : (place end : ℕ) (all left : List ℕ) → AreLeft place all left → place ≤ end → end ≤ first_ordinal left → AreLeft end all left
 left_up place end all left are from before = record { rise = rise left are.rise before; same = λ o more. are.same o (omega arith) }
   where
-    rise : (left : List Difference) → RiseFrom place (keys_of left) → end ≤ first_ordinal left → RiseFrom end (keys_of left)
+    rise : (left : List ℕ) → RiseFrom place left → end ≤ first_ordinal left → RiseFrom end left
     rise [] h before = tt
     rise (d ∷ ds) h before = (before, h.1)
 
-pub left_behind : (place : ℕ) (all left : List Difference) → AreLeft place all left → AreLeft (place + 1) all (behind place left)
+pub left_behind : (place : ℕ) (all left : List ℕ) → AreLeft place all left → AreLeft (place + 1) all (behind place left)
 left_behind place all [] are = record { rise = tt; same = λ o from. are.same o (omega arith) }
 left_behind place all (d ∷ ds) are =
-    elim (cases_eq d.0 place) [
+    elim (cases_eq d place) [
       | inl at ↦
-          let rest : behind place (d ∷ ds) ≡ ds = ap (λ b. if b then ds else d ∷ ds) (eq-eqb d.0 place at) in
-          subst (λ (left : List Difference). AreLeft (place + 1) all left) (sym rest)
+          let rest : behind place (d ∷ ds) ≡ ds = ap (λ b. if b then ds else d ∷ ds) (eq-eqb d place at) in
+          subst (λ (left : List ℕ). AreLeft (place + 1) all left) (sym rest)
           record {
-            rise = subst (λ n. RiseFrom (n + 1) (keys_of ds)) at are.rise.1;
-            same = λ o from. sym (skipped o d ds (λ e. omega (arith, e, at, from))) ∙ are.same o (omega arith);
+            rise = subst (λ n. RiseFrom (n + 1) ds) at are.rise.1;
+            same = λ o from. sym (skipped o (removal d) (map removal ds) (λ e. omega (arith, e, at, from))) ∙ are.same o (omega arith);
           }
       | inr other ↦
-          let rest : behind place (d ∷ ds) ≡ d ∷ ds = ap (λ b. if b then ds else d ∷ ds) (ne_eqb d.0 place other) in
-          subst (λ (left : List Difference). AreLeft (place + 1) all left) (sym rest)
+          let rest : behind place (d ∷ ds) ≡ d ∷ ds = ap (λ b. if b then ds else d ∷ ds) (ne_eqb d place other) in
+          subst (λ (left : List ℕ). AreLeft (place + 1) all left) (sym rest)
           record {
             rise = (omega (arith, other, are.rise.0), are.rise.1);
             same = λ o from. are.same o (omega arith);
           }
     ]
 
--- what the first one says is what all say
-pub slot_is : (place : ℕ) (all left : List Difference) → AreLeft place all left → slot_at place left ≡ find nat_cmp place all
-slot_is place all [] are = are.same place (omega arith)
-slot_is place all (d ∷ ds) are =
-    elim (cases_eq d.0 place) [
-      | inl at ↦ ap (λ b. if b then Some d.1 else None) (eq-eqb d.0 place at) ∙ sym (found place d ds (sym at)) ∙ are.same place (omega arith)
-      | inr other ↦
-          ap (λ b. if b then Some d.1 else None) (ne_eqb d.0 place other) ∙ sym (none_below place d.0 (d ∷ ds) (omega (arith, other, are.rise.0)) (omega arith, are.rise.1)) ∙ are.same place (omega arith)
-    ]
+-- where the first one is not behind the place, it is the place
+left_there : (place : ℕ) (all left : List ℕ) → AreLeft place all left → place < 2 ^ 64 - 1 → first_ordinal left ≤ place → find nat_cmp place (map removal all) ≡ Some None
+left_there place all [] are small first = absurd (omega (arith, small, first))
+left_there place all (d ∷ ds) are small first = sym (are.same place (omega arith)) ∙ found place (removal d) (map removal ds) (omega (arith, first, are.rise.0))
 
--- a difference whose ordinal is no greater than the place is one of it
-slot_there : (place : ℕ) (all left : List Difference) → AreLeft place all left → place < 2 ^ 64 - 1 → first_ordinal left ≤ place → (slot : Option Row) × (find nat_cmp place all ≡ Some slot)
-slot_there place all [] are small first = absurd (omega (arith, small, first))
-slot_there place all (d ∷ ds) are small first =
-    let at : place ≡ d.0 = omega (arith, first, are.rise.0) in
-    (d.1, sym (are.same place (omega arith)) ∙ found place d ds at)
+-- a row comes under the ordinals that are added, and under no others
+come_none : (ds : Differences) (o : ℕ) → find nat_cmp o (map removal ds.patch.now.added) ≡ None → find nat_cmp o (added_of ds) ≡ None
+come_none ds o none = elim (has_or ds.patch.now.added o) [
+  | inl at ↦ absurd (false≢true (ap is_some (sym none ∙ removed_found ds.patch.now.added o at)))
+  | inr out ↦ not_added ds o out
+]
+
+come_some : (ds : Differences) (o : ℕ) → AreApart ds → find nat_cmp o (map removal ds.patch.now.added) ≡ Some None → (place : ℕ) × IsAddedAt ds o place
+come_some ds o a some = elim (has_or ds.patch.now.added o) [
+  | inl at ↦ (at.0, added_at ds o at.0 a (slice_get-get_or ds.patch.now.added at.0 o at.1 ∙ ap Some at.2))
+  | inr out ↦ absurd (false≢true (ap is_some (sym (not_removed ds.patch.now.added o out) ∙ some)))
+]
 
 -- the row that stands at a place, where a difference is of it or none stood there
-pub row_is : (place : ℕ) (rows : RowMap) (ds : Differences) (removed added : List Difference) → AreApart ds → AreLeft place ds.removed.items removed → AreLeft place ds.added.items added → place < 2 ^ 64 - 1
-    → (first_ordinal removed ≤ place) ⊎ ((first_ordinal added ≤ place) ⊎ (get rows place ≡ None)) → row_at place removed added ≡ get (rows_with rows ds) place
-row_is place rows ds removed added apart left_removed left_added small why =
-    ap (λ slot. either slot (either (slot_at place removed) None)) (slot_is place ds.added.items added left_added)
-    ∙ ap (λ slot. either (find nat_cmp place ds.added.items) (either slot None)) (slot_is place ds.removed.items removed left_removed)
-    ∙ told why ∙ sym (get_with rows ds apart place)
+pub row_is : (place : ℕ) (rows : RowMap) (ds : Differences) (removed added : List ℕ) → AreApart ds → AreLeft place ds.patch.now.removed removed → AreLeft place ds.patch.now.added added → place < 2 ^ 64 - 1
+    → (first_ordinal removed ≤ place) ⊎ ((first_ordinal added ≤ place) ⊎ (get rows place ≡ None)) → coming_at ds place ≡ get (rows_with rows ds) place
+row_is place rows ds removed added apart left_removed left_added small why = told why ∙ sym (get_with rows ds apart place)
   where
+    gone : find nat_cmp place (removed_of ds) ≡ Some None → either (find nat_cmp place (added_of ds)) None ≡ either (find nat_cmp place (added_of ds)) (either (find nat_cmp place (removed_of ds)) (get rows place))
+    gone at = sym (ap (λ f. either (find nat_cmp place (added_of ds)) (either f (get rows place))) at)
+
     told : (first_ordinal removed ≤ place) ⊎ ((first_ordinal added ≤ place) ⊎ (get rows place ≡ None))
-        → either (find nat_cmp place ds.added.items) (either (find nat_cmp place ds.removed.items) None) ≡ either (find nat_cmp place ds.added.items) (either (find nat_cmp place ds.removed.items) (get rows place))
-    told (inl first) =
-        let slot = slot_there place ds.removed.items removed left_removed small first in
-        ap (λ f. either (find nat_cmp place ds.added.items) (either f None)) slot.1 ∙ sym (ap (λ f. either (find nat_cmp place ds.added.items) (either f (get rows place))) slot.1)
+        → either (find nat_cmp place (added_of ds)) None ≡ either (find nat_cmp place (added_of ds)) (either (find nat_cmp place (removed_of ds)) (get rows place))
+    told (inl first) = gone (left_there place ds.patch.now.removed removed left_removed small first)
     told (inr (inl first)) =
-        let slot = slot_there place ds.added.items added left_added small first in
-        ap (λ f. either f (either (find nat_cmp place ds.removed.items) None)) slot.1 ∙ sym (ap (λ f. either f (either (find nat_cmp place ds.removed.items) (get rows place))) slot.1)
-    told (inr (inr none)) = ap (λ r. either (find nat_cmp place ds.added.items) (either (find nat_cmp place ds.removed.items) r)) (sym none)
+        let at = come_some ds place apart (left_there place ds.patch.now.added added left_added small first) in
+        ap (λ f. either f None) at.1.found ∙ sym (ap (λ f. either f (either (find nat_cmp place (removed_of ds)) (get rows place))) at.1.found)
+    told (inr (inr none)) = elim (has_or ds.patch.now.removed place) [
+      | inl at ↦ gone (removed_found ds.patch.now.removed place at)
+      | inr out ↦ sym (ap (λ f. either (find nat_cmp place (added_of ds)) (either f (get rows place))) (not_removed ds.patch.now.removed place out) ∙ ap (either (find nat_cmp place (added_of ds))) none)
+    ]
 
 -- where none of both is of a place, the row is the one that stood there
-pub row_stays : (place o : ℕ) (rows : RowMap) (ds : Differences) (removed added : List Difference) → AreApart ds → AreLeft place ds.removed.items removed → AreLeft place ds.added.items added → place ≤ o
+pub row_stays : (place o : ℕ) (rows : RowMap) (ds : Differences) (removed added : List ℕ) → AreApart ds → AreLeft place ds.patch.now.removed removed → AreLeft place ds.patch.now.added added → place ≤ o
     → o < first_ordinal removed → o < first_ordinal added → get (rows_with rows ds) o ≡ get rows o
 row_stays place o rows ds removed added apart left_removed left_added from below less =
-    with_neither rows ds o apart (none_till place o ds.added.items added left_added from less) (none_till place o ds.removed.items removed left_removed from below)
+    with_neither rows ds o apart (come_none ds o (none_till place o ds.patch.now.added added left_added from less)) (none_till place o ds.patch.now.removed removed left_removed from below)
 
 -- ---- the places that are written
 
 -- the places below one are written, and the differences that are left are those from it on
-pub record WrittenSoFar (shape : Shape) (half : HalfShape) (old : RowMap) (ds : Differences) (removed added : List Difference) (first : List ℕ) (areas : List (List ℕ)) (place : ℕ) : Type 0 where
+pub record WrittenSoFar (shape : Shape) (half : HalfShape) (old : RowMap) (ds : Differences) (removed added : List ℕ) (first : List ℕ) (areas : List (List ℕ)) (place : ℕ) : Type 0 where
   pub packed : PackedSoFar shape half.widths (places_in (rows_with old ds) (places_of half.max)) first areas place
   pub within : place ≤ places_of half.max
-  pub removed_left : AreLeft place ds.removed.items removed
-  pub added_left : AreLeft place ds.added.items added
+  pub removed_left : AreLeft place ds.patch.now.removed removed
+  pub added_left : AreLeft place ds.patch.now.added added
 
-pub written_none : (shape : Shape) (half : HalfShape) (old : RowMap) (ds : Differences) (removed added : List Difference) (first : List ℕ) (areas : List (List ℕ)) → IsObject shape → CanLay shape half (rows_with old ds) → AreApart ds
-    → removed ≡ ds.removed.items → added ≡ ds.added.items → first ≡ replicate (place_words shape half) 0 → areas ≡ replicate (length (shape_fields shape)) [] → WrittenSoFar shape half old ds removed added first areas 0
+pub written_none : (shape : Shape) (half : HalfShape) (old : RowMap) (ds : Differences) (removed added : List ℕ) (first : List ℕ) (areas : List (List ℕ)) → IsObject shape → CanLay shape half (rows_with old ds) → AreApart ds
+    → removed ≡ ds.patch.now.removed → added ≡ ds.patch.now.added → first ≡ replicate (place_words shape half) 0 → areas ≡ replicate (length (shape_fields shape)) [] → WrittenSoFar shape half old ds removed added first areas 0
 written_none shape half old ds removed added first areas object can apart removed_is added_is zeros none = record {
   packed = records_begun shape half (rows_with old ds) object can half.widths first areas refl (zeros ∙ ap (λ n. replicate n 0) (object_width shape half object)) none;
   within = omega arith;
-  removed_left = subst (λ (left : List Difference). AreLeft 0 ds.removed.items left) (sym removed_is) (all_left ds.removed.items apart.removed);
-  added_left = subst (λ (left : List Difference). AreLeft 0 ds.added.items left) (sym added_is) (all_left ds.added.items apart.added);
+  removed_left = subst (λ (left : List ℕ). AreLeft 0 ds.patch.now.removed left) (sym removed_is) (all_left ds.patch.now.removed apart.gone_rise);
+  added_left = subst (λ (left : List ℕ). AreLeft 0 ds.patch.now.added left) (sym added_is) (all_left ds.patch.now.added apart.come_rise);
 }
 
-pub written_run : (shape : Shape) (half : HalfShape) (old : RowMap) (ds : Differences) (removed added : List Difference) (widths first first' : List ℕ) (areas areas' : List (List ℕ)) (place end : ℕ) → AreApart ds → widths ≡ half.widths
+pub written_run : (shape : Shape) (half : HalfShape) (old : RowMap) (ds : Differences) (removed added : List ℕ) (widths first first' : List ℕ) (areas areas' : List (List ℕ)) (place end : ℕ) → AreApart ds → widths ≡ half.widths
     → WrittenSoFar shape half old ds removed added first areas place → place ≤ end → end ≤ places_of half.max → end ≤ first_ordinal removed → end ≤ first_ordinal added
     → IsRunPut shape widths first areas first' areas' place end old → length first' ≡ length first → WrittenSoFar shape half old ds removed added first' areas' end
 written_run shape half old ds removed added widths first first' areas areas' place end apart widths_are so_far rises below before_removed before_added put long = record {
@@ -350,23 +358,23 @@ written_run shape half old ds removed added widths first first' areas areas' pla
       (λ p from less. row_stays place p old ds removed added apart so_far.removed_left so_far.added_left from (omega arith) (omega arith))
       (subst (λ (ws : List ℕ). IsRunPut shape ws first areas first' areas' place end old) widths_are put) long;
   within = below;
-  removed_left = left_up place end ds.removed.items removed so_far.removed_left rises before_removed;
-  added_left = left_up place end ds.added.items added so_far.added_left rises before_added;
+  removed_left = left_up place end ds.patch.now.removed removed so_far.removed_left rises before_removed;
+  added_left = left_up place end ds.patch.now.added added so_far.added_left rises before_added;
 }
 
-pub written_row : (shape : Shape) (half : HalfShape) (old : RowMap) (ds : Differences) (removed added : List Difference) (widths first first' : List ℕ) (areas areas' : List (List ℕ)) (place : ℕ) (row : Option Row) → IsObject shape
+pub written_row : (shape : Shape) (half : HalfShape) (old : RowMap) (ds : Differences) (removed added : List ℕ) (widths first first' : List ℕ) (areas areas' : List (List ℕ)) (place : ℕ) (row : Option Row) → IsObject shape
     → CanLay shape half (rows_with old ds) → widths ≡ half.widths → WrittenSoFar shape half old ds removed added first areas place → place < places_of half.max → row ≡ get (rows_with old ds) place
     → IsRowPut shape widths first areas first' areas' place row → length first' ≡ length first → WrittenSoFar shape half old ds (behind place removed) (behind place added) first' areas' (place + 1)
 written_row shape half old ds removed added widths first first' areas areas' place row object can widths_are so_far inside is put long = record {
   packed = record_more shape half (rows_with old ds) object can half.widths first first' areas areas' place row so_far.packed inside is
       (subst (λ (ws : List ℕ). IsRowPut shape ws first areas first' areas' place row) widths_are put) long;
   within = omega arith;
-  removed_left = left_behind place ds.removed.items removed so_far.removed_left;
-  added_left = left_behind place ds.added.items added so_far.added_left;
+  removed_left = left_behind place ds.patch.now.removed removed so_far.removed_left;
+  added_left = left_behind place ds.patch.now.added added so_far.added_left;
 }
 
 -- there is room for a run up to the first difference
-pub room_for_run : (shape : Shape) (half : HalfShape) (old : RowMap) (ds : Differences) (removed added : List Difference) (widths first : List ℕ) (areas : List (List ℕ)) (place end : ℕ) → IsObject shape → CanLay shape half (rows_with old ds)
+pub room_for_run : (shape : Shape) (half : HalfShape) (old : RowMap) (ds : Differences) (removed added : List ℕ) (widths first : List ℕ) (areas : List (List ℕ)) (place end : ℕ) → IsObject shape → CanLay shape half (rows_with old ds)
     → AreApart ds → widths ≡ half.widths → WrittenSoFar shape half old ds removed added first areas place → place ≤ end → end ≤ places_of half.max → end ≤ first_ordinal removed → end ≤ first_ordinal added
     → HasRunRoom shape widths first areas place end old
 room_for_run shape half old ds removed added widths first areas place end object can apart widths_are so_far rises below before_removed before_added =
@@ -387,10 +395,10 @@ why_not gone come before places place end is past inside =
     ]
 
 -- the row that stands at a place that is in no run
-pub row_there : (shape : Shape) (half_before half : HalfShape) (words : List ℕ) (ds : Differences) (removed added : List Difference) (first : List ℕ) (areas : List (List ℕ)) (given : Shape) (place end : ℕ) → IsHalf shape half_before words
+pub row_there : (shape : Shape) (half_before half : HalfShape) (words : List ℕ) (ds : Differences) (removed added : List ℕ) (first : List ℕ) (areas : List (List ℕ)) (given : Shape) (place end : ℕ) → IsHalf shape half_before words
     → IsSome half_before.max → AreApart ds → WrittenSoFar given half (half_rows shape half_before words) ds removed added first areas place → place < places_of half.max → places_of half.max < 2 ^ 33
     → end ≡ min (min (first_ordinal removed) (first_ordinal added)) (min (places_of half_before.max) (places_of half.max)) → end ≤ place
-    → row_at place removed added ≡ get (rows_with (half_rows shape half_before words) ds) place
+    → coming_at ds place ≡ get (rows_with (half_rows shape half_before words) ds) place
 row_there shape half_before half words ds removed added first areas given place end kept some apart so_far inside few end_is past =
     row_is place (half_rows shape half_before words) ds removed added apart so_far.removed_left so_far.added_left (omega (arith, inside, few))
     (why (why_not (first_ordinal removed) (first_ordinal added) (places_of half_before.max) (places_of half.max) place end end_is past inside))
@@ -402,7 +410,7 @@ row_there shape half_before half words ds removed added first areas given place 
     why (inr (inr h)) = inr (inr (none_behind shape half_before words place kept some h))
 
 -- there is room for that row
-pub room_for_row : (shape : Shape) (half : HalfShape) (old : RowMap) (ds : Differences) (removed added : List Difference) (widths first : List ℕ) (areas : List (List ℕ)) (place : ℕ) (row : Option Row) → IsObject shape
+pub room_for_row : (shape : Shape) (half : HalfShape) (old : RowMap) (ds : Differences) (removed added : List ℕ) (widths first : List ℕ) (areas : List (List ℕ)) (place : ℕ) (row : Option Row) → IsObject shape
     → CanLay shape half (rows_with old ds) → widths ≡ half.widths → WrittenSoFar shape half old ds removed added first areas place → place < places_of half.max → row ≡ get (rows_with old ds) place
     → HasRoom shape widths first areas place row
 room_for_row shape half old ds removed added widths first areas place row object can widths_are so_far inside is =
@@ -410,14 +418,14 @@ room_for_row shape half old ds removed added widths first areas place row object
     (record_room shape half (rows_with old ds) object can half.widths first areas place row refl so_far.packed inside is)
 
 -- the row of a place before the first difference is the one that stood there, and there is room for it
-pub room_for_kept : (shape : Shape) (half : HalfShape) (old : RowMap) (ds : Differences) (removed added : List Difference) (widths first : List ℕ) (areas : List (List ℕ)) (place : ℕ) → IsObject shape
+pub room_for_kept : (shape : Shape) (half : HalfShape) (old : RowMap) (ds : Differences) (removed added : List ℕ) (widths first : List ℕ) (areas : List (List ℕ)) (place : ℕ) → IsObject shape
     → CanLay shape half (rows_with old ds) → AreApart ds → widths ≡ half.widths → WrittenSoFar shape half old ds removed added first areas place → place < places_of half.max → place < first_ordinal removed
     → place < first_ordinal added → HasRoom shape widths first areas place (get old place)
 room_for_kept shape half old ds removed added widths first areas place object can apart widths_are so_far inside before_removed before_added =
     room_for_row shape half old ds removed added widths first areas place (get old place) object can widths_are so_far inside
     (sym (row_stays place place old ds removed added apart so_far.removed_left so_far.added_left (omega arith) before_removed before_added))
 
-pub written_kept : (shape : Shape) (half : HalfShape) (old : RowMap) (ds : Differences) (removed added : List Difference) (widths first first' : List ℕ) (areas areas' : List (List ℕ)) (place : ℕ) → IsObject shape
+pub written_kept : (shape : Shape) (half : HalfShape) (old : RowMap) (ds : Differences) (removed added : List ℕ) (widths first first' : List ℕ) (areas areas' : List (List ℕ)) (place : ℕ) → IsObject shape
     → CanLay shape half (rows_with old ds) → AreApart ds → widths ≡ half.widths → WrittenSoFar shape half old ds removed added first areas place → place < places_of half.max → place < first_ordinal removed
     → place < first_ordinal added → IsRowPut shape widths first areas first' areas' place (get old place) → length first' ≡ length first → WrittenSoFar shape half old ds removed added first' areas' (place + 1)
 written_kept shape half old ds removed added widths first first' areas areas' place object can apart widths_are so_far inside before_removed before_added put long = record {
@@ -425,11 +433,11 @@ written_kept shape half old ds removed added widths first first' areas areas' pl
       (sym (row_stays place place old ds removed added apart so_far.removed_left so_far.added_left (omega arith) before_removed before_added))
       (subst (λ (ws : List ℕ). IsRowPut shape ws first areas first' areas' place (get old place)) widths_are put) long;
   within = omega arith;
-  removed_left = left_up place (place + 1) ds.removed.items removed so_far.removed_left (omega arith) (omega arith);
-  added_left = left_up place (place + 1) ds.added.items added so_far.added_left (omega arith) (omega arith);
+  removed_left = left_up place (place + 1) ds.patch.now.removed removed so_far.removed_left (omega arith) (omega arith);
+  added_left = left_up place (place + 1) ds.patch.now.added added so_far.added_left (omega arith) (omega arith);
 }
 
-pub written_all : (shape : Shape) (half : HalfShape) (old : RowMap) (ds : Differences) (removed added : List Difference) (first : List ℕ) (areas : List (List ℕ)) (place : ℕ) → IsObject shape → CanLay shape half (rows_with old ds)
+pub written_all : (shape : Shape) (half : HalfShape) (old : RowMap) (ds : Differences) (removed added : List ℕ) (first : List ℕ) (areas : List (List ℕ)) (place : ℕ) → IsObject shape → CanLay shape half (rows_with old ds)
     → WrittenSoFar shape half old ds removed added first areas place → places_of half.max ≤ place → ArePacked shape half.widths (places_in (rows_with old ds) (places_of half.max)) first areas
 written_all shape half old ds removed added first areas place object can so_far past =
     records_done shape half (rows_with old ds) object can half.widths first areas place refl so_far.packed (let within = so_far.within in omega arith)

@@ -1,16 +1,12 @@
 -- What rows that leave take off, told where they stand packed.
-use Rattle.std.proofs.Common.{◌≡◌, ℕ, zero, suc, ◌+◌, ◌-◌, ◌*◌, ◌^◌, ◌<◌, ◌≤◌, min, List, [], ◌∷◌, ◌++◌, length, get_or, map, set, take, Option, None, Some, inl, inr, refl, sym, ap, subst, ◌∙◌, arith}
+use Rattle.std.proofs.Common.{◌≡◌, ℕ, zero, suc, ◌+◌, ◌-◌, ◌*◌, ◌^◌, ◌<◌, ◌≤◌, min, List, [], ◌∷◌, ◌++◌, length, get_or, set, take, Option, None, Some, refl, sym, ap, subst, ◌∙◌, arith}
 use Rattle.std.specs.Prelude.{IsSome, slice_get, slice_index, sum_by}
 use Rattle.std.specs.FinMap.{get}
-use Rattle.std.specs.List.{range_with_len}
-use Rattle.std.proofs.lemmas.Bool.{cases_lt}
 use Rattle.std.proofs.lemmas.List.{length-append, length-map, take_all}
 use Rattle.std.proofs.lemmas.List.FromFn.{length-map-range_with_len}
 use Rattle.std.proofs.lemmas.List.Sums.{sum_by_more}
-use Rattle.std.proofs.lemmas.Option.{get_or_from_slice_get, slice_get_past, slice_get_read}
-use Rattle.hol_varint.specs.TextUnits.{AreUnitsIn}
+use Rattle.std.proofs.lemmas.Option.{get_or_from_slice_get}
 use Rattle.bit_array.specs.Element.{element_of}
-use Rattle.schema_model.specs.Parts.{shape_fields}
 use Rattle.schema_model.specs.declared.schema.Field.{Field}
 use Rattle.schema_model.specs.declared.schema.FieldKind.{FieldKind}
 use Rattle.schema_model.specs.declared.schema.Shape.{Shape}
@@ -28,7 +24,6 @@ use Rattle.object_codec.specs.declared.value_ref.ValueRef.{ValueRef}
 use Rattle.list_codec.specs.ListPlace.{end_at as list_end, start_at as list_start}
 use Rattle.bucket_codec.specs.BucketCount.{bucket_count}
 use Rattle.bucket_codec.specs.BucketPlace.{size_at}
-use Rattle.bucket_codec.specs.Run.{keys_of}
 use Rattle.column_rows.specs.Items.{IsListThere, IsOfPairs, IsRunThere}
 use Rattle.column_rows.specs.declared.items.PackedItems.{PackedItems}
 use Rattle.type_rows.specs.declared.totals.Totals.{Totals}
@@ -38,7 +33,7 @@ use Rattle.type_rows.specs.Totals.{AreLess, HasParts}
 use Rattle.type_rows.specs.WordsHeld.{part_bytes, row_bytes, value_bytes}
 use Rattle.type_rows.proofs.Takings.{Taking, all_taken, begun as begun_taking, taken_more}
 use Rattle.column_rows.specs.OneType.{AreListsIn, AreRunsIn, IsColumnIn, IsRowsBound}
-use Rattle.type_state.specs.Leaving.{AreColumns, AreReadAt, AreStanding, HasColumns, HasItems, StandsIn}
+use Rattle.type_state.specs.Leaving.{AreColumns, AreStanding, HasColumns, HasItems, StandsIn}
 use Rattle.type_state.specs.declared.leaving.Items.{Items}
 use Rattle.type_state.specs.declared.leaving.Leaving.{Leaving}
 

@@ -17,7 +17,7 @@ use Rattle.type_rows.proofs.Keyed.{entries_rise}
 use Rattle.type_rows.specs.Differing.{Difference, differ_at}
 use Rattle.type_rows.proofs.DifferingAt.{differs_here, differs_there}
 use Rattle.type_state.specs.declared.differences.Differences.{Differences}
-use Rattle.type_state.specs.Differences.{differing, present, removal, rows_with}
+use Rattle.type_state.specs.Differences.{differing, present, removal, rows_with, added_of, removed_of}
 use Rattle.type_state.specs.Live.{live_with, with_all, without_all}
 use Rattle.type_state.proofs.Lookups.{found, key_live, skipped}
 
@@ -86,43 +86,43 @@ keys_with rows o row =
 
 -- ---- all of them
 
-pub keys_gone : (rows : RowMap) (os : List ℕ) → keys (differing rows (map removal os)) ≡ without_all (keys rows) (map removal os)
+keys_gone : (rows : RowMap) (os : List ℕ) → keys (differing rows (map removal os)) ≡ without_all (keys rows) os
 unfolding differing without_all
 keys_gone rows [] = refl
-keys_gone rows (o ∷ os) = keys_gone (differ_at rows (o, None)) os ∙ ap (λ live. without_all live (map removal os)) (keys_without rows o)
+keys_gone rows (o ∷ os) = keys_gone (differ_at rows (o, None)) os ∙ ap (λ live. without_all live os) (keys_without rows o)
 
-pub keys_come : (rows : RowMap) (ds : List Difference) (come : List Row) → values_of ds ≡ map present come → keys (differing rows ds) ≡ with_all (keys rows) ds
+keys_come : (rows : RowMap) (ds : List Difference) (come : List Row) → values_of ds ≡ map present come → keys (differing rows ds) ≡ with_all (keys rows) (keys_of ds)
 unfolding differing with_all
 keys_come rows [] come are = refl
 keys_come rows (d ∷ ds) [] are = absurd cc
 keys_come rows ((o, None) ∷ ds) (row ∷ come) are = absurd cc
 keys_come rows ((o, Some some) ∷ ds) (row ∷ come) are =
     let rest : values_of ds ≡ map present come = cc in
-    keys_come (differ_at rows (o, Some some)) ds come rest ∙ ap (λ live. with_all live ds) (keys_with rows o some)
+    keys_come (differ_at rows (o, Some some)) ds come rest ∙ ap (λ live. with_all live (keys_of ds)) (keys_with rows o some)
 
 -- Those that are removed are gone, and those that are added have come.
-pub keys_moved : (rows : RowMap) (ds : Differences) (removed : List ℕ) (come : List Row) → ds.removed.items ≡ map removal removed → values_of ds.added.items ≡ map present come → keys (rows_with rows ds) ≡ live_with (keys rows) ds
-keys_moved rows ds removed come gone are =
-    keys_come (differing rows ds.removed.items) ds.added.items come are
-    ∙ ap (λ live. with_all live ds.added.items)
-    (ap (λ xs. keys (differing rows xs)) gone ∙ keys_gone rows removed ∙ ap (without_all (keys rows)) (sym gone))
+pub keys_moved : (rows : RowMap) (ds : Differences) (come : List Row) → keys_of (added_of ds) ≡ ds.patch.now.added → values_of (added_of ds) ≡ map present come → keys (rows_with rows ds) ≡ live_with (keys rows) ds
+keys_moved rows ds come added are =
+    keys_come (differing rows (removed_of ds)) (added_of ds) come are
+    ∙ ap (with_all (keys (differing rows (removed_of ds)))) added
+    ∙ ap (λ live. with_all live ds.patch.now.added) (keys_gone rows ds.patch.now.removed)
 
 -- ---- sets that are made one ordinal after another
 
-pub taken_more : (old new all : List ℕ) (ds : List Difference) (index : ℕ) (d : Difference) → without_all old (drop index ds) ≡ all → index < length ds → d ≡ get_or ds index d → new ≡ without_ordinal d.0 old → without_all new (drop (index + 1) ds) ≡ all
+pub taken_more : (old new all os : List ℕ) (index o : ℕ) → without_all old (drop index os) ≡ all → index < length os → o ≡ get_or os index 0 → new ≡ without_ordinal o old → without_all new (drop (index + 1) os) ≡ all
 unfolding without_all
-taken_more old new all ds index d before inside is new_is =
-    ap (λ (set : List ℕ). without_all set (drop (index + 1) ds)) (new_is ∙ ap (λ (f : Difference). without_ordinal f.0 old) is) ∙ sym (at_drop_more (without_all old) ds index d inside) ∙ before
+taken_more old new all os index o before inside is new_is =
+    ap (λ (set : List ℕ). without_all set (drop (index + 1) os)) (new_is ∙ ap (λ (p : ℕ). without_ordinal p old) is) ∙ sym (at_drop_more (without_all old) os index 0 inside) ∙ before
 
-pub taken_all : (set all : List ℕ) (ds : List Difference) (index : ℕ) → without_all set (drop index ds) ≡ all → length ds ≤ index → set ≡ all
+pub taken_all : (set all os : List ℕ) (index : ℕ) → without_all set (drop index os) ≡ all → length os ≤ index → set ≡ all
 unfolding without_all
-taken_all set all ds index before past = sym (ap (without_all set) (drop_all index ds past)) ∙ before
+taken_all set all os index before past = sym (ap (without_all set) (drop_all index os past)) ∙ before
 
-pub put_more : (old new all : List ℕ) (ds : List Difference) (index : ℕ) (d : Difference) → with_all old (drop index ds) ≡ all → index < length ds → d ≡ get_or ds index d → new ≡ with_ordinal d.0 old → with_all new (drop (index + 1) ds) ≡ all
+pub put_more : (old new all os : List ℕ) (index o : ℕ) → with_all old (drop index os) ≡ all → index < length os → o ≡ get_or os index 0 → new ≡ with_ordinal o old → with_all new (drop (index + 1) os) ≡ all
 unfolding with_all
-put_more old new all ds index d before inside is new_is =
-    ap (λ (set : List ℕ). with_all set (drop (index + 1) ds)) (new_is ∙ ap (λ (f : Difference). with_ordinal f.0 old) is) ∙ sym (at_drop_more (with_all old) ds index d inside) ∙ before
+put_more old new all os index o before inside is new_is =
+    ap (λ (set : List ℕ). with_all set (drop (index + 1) os)) (new_is ∙ ap (λ (p : ℕ). with_ordinal p old) is) ∙ sym (at_drop_more (with_all old) os index 0 inside) ∙ before
 
-pub put_all : (set all : List ℕ) (ds : List Difference) (index : ℕ) → with_all set (drop index ds) ≡ all → length ds ≤ index → set ≡ all
+pub put_all : (set all os : List ℕ) (index : ℕ) → with_all set (drop index os) ≡ all → length os ≤ index → set ≡ all
 unfolding with_all
-put_all set all ds index before past = sym (ap (with_all set) (drop_all index ds past)) ∙ before
+put_all set all os index before past = sym (ap (with_all set) (drop_all index os past)) ∙ before

@@ -1,18 +1,14 @@
 -- Look-ups among entries of any kind whose ordinals rise.
-use Rattle.std.proofs.Common.{◌≡◌, ℕ, zero, suc, ◌+◌, ◌-◌, ◌<◌, ◌≤◌, inl, inr, List, [], ◌∷◌, length, get_or, cond, true, None, Some, Ok, Err, refl, ap, sym, subst, ◌∙◌, arith}
-use Rattle.std.specs.Prelude.{All, is_some, IsSome, ltb, slice_get}
-use Rattle.std.specs.Ordering.{nat_cmp, eq_by_cmp, ordering_index}
+use Rattle.std.proofs.Common.{◌≡◌, ℕ, zero, suc, ◌+◌, ◌<◌, ◌≤◌, inl, inr, List, [], ◌∷◌, length, get_or, cond, true, None, Some, refl, ap, sym, subst, ◌∙◌, arith}
+use Rattle.std.specs.Prelude.{All, is_some, IsSome}
+use Rattle.std.specs.Ordering.{nat_cmp, eq_by_cmp}
 use Rattle.std.specs.FinMap.{find}
 use Rattle.std.specs.Map.{keys_of}
-use Rattle.std.specs.List.Sorted.{IsStrictlySortedBy, IsBinarySearchResult, IsNonDecreasingBy}
-use Rattle.std.proofs.lemmas.Bool.{cases_eq, cases_lt, false≢true, ltb-true}
-use Rattle.std.proofs.lemmas.Bool.Decides.{nat_tests}
-use Rattle.std.proofs.lemmas.Cmp.{ranked}
+use Rattle.std.specs.List.Sorted.{IsStrictlySortedBy}
+use Rattle.std.proofs.lemmas.Bool.{cases_eq, false≢true}
 use Rattle.std.proofs.lemmas.List.{get_or-map, length-map}
-use Rattle.std.proofs.lemmas.List.Sorted.{IsNonDecreasingBy-from_default}
 use Rattle.std.proofs.lemmas.Map.Keys.{below_from_sorted}
-use Rattle.std.proofs.lemmas.Option.{get_or_from_slice_get}
-use Rattle.type_rows.proofs.Rising.{RiseFrom, from_sorted}
+use Rattle.type_rows.proofs.Rising.{RiseFrom}
 use Rattle.type_rows.proofs.DifferingAt.{other_key, same_key}
 
 -- A look-up skips another key, and finds an equal one.
@@ -40,18 +36,6 @@ found_at low (e ∷ es) q (suc at) d rise inside is =
     let above = above_first (e.0 + 1) es at d rise.1 (omega arith) in
     skipped q e es (λ same. omega (arith, same, is, above)) ∙ found_at (e.0 + 1) es q at d rise.1 (omega arith) is
 
--- The same of an entry that a reader of these has at a place.
-pub found_there : {X : Type 0} (es ys : List (ℕ × X)) (q at : ℕ) (e : ℕ × X) → IsStrictlySortedBy nat_cmp (keys_of es) → ys ≡ es → true ≡ ltb at (length ys) → e ≡ get_or ys at e → e.0 ≡ q → find nat_cmp q es ≡ Some e.1
-found_there {X} es ys q at e sorted same within is key =
-    let here = is ∙ ap (λ (zs : List (ℕ × X)). get_or zs at e) same in
-    let inside : at < length es = subst (λ (zs : List (ℕ × X)). at < length zs) same (ltb-true at (length ys) (sym within)) in
-    found_at 0 es q at e (from_sorted (keys_of es) sorted) inside (ap (λ (d : ℕ × X). d.0) (sym here) ∙ key) ∙ ap (λ (d : ℕ × X). Some d.1) (sym here)
-
--- Where no entry has the key nothing is found.
-pub absent : {X : Type 0} (es : List (ℕ × X)) (q : ℕ) (d : ℕ × X) → ((at : ℕ) → at < length es → (get_or es at d).0 ≡ q → ⊥) → find nat_cmp q es ≡ None
-absent [] q d none = refl
-absent (e ∷ es) q d none = skipped q e es (λ same. none 0 (omega arith) (sym same)) ∙ absent es q d (λ at inside. none (suc at) (omega arith))
-
 still_live : {X : Type 0} (o : ℕ) (e : ℕ × X) (es : List (ℕ × X)) → IsSome (find nat_cmp o es) → IsSome (find nat_cmp o (e ∷ es))
 still_live o e es some = elim (cases_eq o e.0) [
   | inl same ↦ ap is_some (found o e es same)
@@ -72,7 +56,7 @@ found_below o limit (e ∷ es) small some = elim (cases_eq o e.0) [
   | inr other ↦ found_below o limit es (λ k d inside. small (suc k) d (omega arith)) (subst IsSome (skipped o e es other) some)
 ]
 
--- ---- a binary search
+-- ---- keys that rise
 
 pub keys_rise : {X : Type 0} (es : List (ℕ × X)) (i j : ℕ) (d : ℕ × X) → IsStrictlySortedBy nat_cmp (keys_of es) → i < j → j < length es → (get_or es i d).0 < (get_or es j d).0
 keys_rise {X} es i j d sorted before inside =
@@ -81,30 +65,3 @@ keys_rise {X} es i j d sorted before inside =
     let long = length-map es (λ (e : ℕ × X). e.0) in
     let rise = below_from_sorted (keys_of es) i j 0 sorted before (omega (arith, long, inside)) in
     omega (arith, rise, low, high)
-
--- The comparisons with a key rise along the entries, as a binary search asks.
-comparisons_rise : {X : Type 0} (es : List (ℕ × X)) (q : ℕ) (d : ℕ × X) → IsStrictlySortedBy nat_cmp (keys_of es) → IsNonDecreasingBy (λ e. ordering_index (nat_cmp e.0 q)) es
-comparisons_rise {X} es q d sorted = IsNonDecreasingBy-from_default (λ e. ordering_index (nat_cmp e.0 q)) es d (λ i j le inside.
-    let rise : (get_or es i d).0 ≤ (get_or es j d).0 = grind (arith, keys_rise es i j d sorted, λ (same : i ≡ j). ap (λ k. (get_or es k d).0) same) in
-    grind (arith, nat_tests))
-
-pub searched : {X : Type 0} (es : List (ℕ × X)) (q at : ℕ) (d : ℕ × X) → IsStrictlySortedBy nat_cmp (keys_of es) → at < length es → IsBinarySearchResult (λ e. nat_cmp e.0 q) es (Ok at) → find nat_cmp q es ≡ Some (get_or es at d).1
-searched es q at d sorted inside equal = found_at 0 es q at d (from_sorted (keys_of es) sorted) inside (ranked _ q _ (sym (equal d)))
-
-pub missed : {X : Type 0} (es : List (ℕ × X)) (q gap : ℕ) (d : ℕ × X) → IsStrictlySortedBy nat_cmp (keys_of es) → gap ≤ length es → IsBinarySearchResult (λ e. nat_cmp e.0 q) es (Err gap) → find nat_cmp q es ≡ None
-missed es q gap d sorted inside parted =
-    let parts = parted (comparisons_rise es q d sorted) in
-    absent es q d (λ at within is.
-    elim (cases_lt at gap) [
-      | inl before ↦ (let below : (get_or es at d).0 < q = ranked _ q _ (sym (parts.0 at d (omega arith) before)) in omega (arith, below, is))
-      | inr after ↦ (let above : q < (get_or es at d).0 = ranked _ q _ (sym (parts.1 at d after within)) in omega (arith, above, is))
-    ])
-
--- No key is above the last one.
-pub not_above_last : {X : Type 0} (es : List (ℕ × X)) (last : ℕ × X) → IsStrictlySortedBy nat_cmp (keys_of es) → Some last ≡ slice_get es (length es - 1) → (k : ℕ) (d : ℕ × X) → k < length es → (get_or es k d).0 ≤ last.0
-not_above_last {X} es last sorted is k d inside =
-    let at = ap (λ (e : ℕ × X). e.0) (get_or_from_slice_get es (length es - 1) last d (sym is)) in
-    elim (cases_lt k (length es - 1)) [
-      | inl before ↦ (let rise = keys_rise es k (length es - 1) d sorted before (omega arith) in omega (arith, at, rise))
-      | inr after ↦ (let same : length es - 1 ≡ k = omega arith in let here = ap (λ i. (get_or es i d).0) same in omega (arith, at, here))
-    ]

@@ -2,12 +2,11 @@
 use Rattle.std.proofs.Common.{◌≡◌, ℕ, zero, suc, ◌+◌, ◌-◌, ◌^◌, ◌<◌, ◌≤◌, inl, inr, List, [], ◌∷◌, length, map, Option, None, Some, refl, ap, sym, ◌∙◌, subst, arith}
 use Rattle.std.specs.Prelude.{All, Contains, IsSome, slice_get}
 use Rattle.std.specs.Option.{option_map}
-use Rattle.std.specs.List.Sorted.{IsStrictlySortedBy}
+use Rattle.std.specs.List.Sorted.{IsStrictlyIncreasing, IsStrictlySortedBy}
 use Rattle.std.specs.Ordering.{nat_cmp}
 use Rattle.std.specs.FinMap.{find, get, keys}
 use Rattle.std.specs.Map.{keys_of, values_of}
 use Rattle.std.proofs.lemmas.Bool.{cases_eq, cases_lt}
-use Rattle.std.proofs.lemmas.List.{get_or-map, length-map}
 use Rattle.std.proofs.lemmas.List.Elements.{All-contains}
 use Rattle.std.proofs.lemmas.Map.Keys.{sorted_from_strictly_increasing}
 use Rattle.std.proofs.lemmas.Option.{slice_get_within, slice_get-map}
@@ -16,16 +15,15 @@ use Rattle.schema_model.specs.declared.schema.Shape.{Shape}
 use Rattle.row_model.specs.declared.row.Row.{Row}
 use Rattle.row_model.specs.Table.{RowMap}
 use Rattle.type_rows.specs.declared.patch.PatchSection.{PatchSection}
-use Rattle.type_rows.specs.Differing.{Difference}
 use Rattle.type_rows.specs.Layout.{places_of}
-use Rattle.type_rows.specs.Patches.{MovesRows}
+use Rattle.type_rows.specs.Patches.{IsReadablePatch, MovesRows}
 use Rattle.type_rows.proofs.Entries.{below_bound}
 use Rattle.type_rows.proofs.Removal.{has_or}
 use Rattle.type_rows.proofs.Rising.{RiseFrom, none_is_not, from_sorted}
 use Rattle.type_rows.specs.MoveFault.{LeadsTo}
 use Rattle.type_rows.proofs.MoveFaults.{key_of_live}
 use Rattle.type_state.specs.declared.differences.Differences.{Differences}
-use Rattle.type_state.specs.Differences.{AreApart, AreBelow, present, removal, rows_with}
+use Rattle.type_state.specs.Differences.{AreApart, AreBelow, AreSpelled, present, removal, rows_with, added_of, removed_of}
 use Rattle.type_state.specs.Moving.{IsDifferent, IsMoved}
 use Rattle.type_state.proofs.DifferingRows.{either, get_with}
 use Rattle.type_state.proofs.Lookups.{found, skipped}
@@ -49,7 +47,7 @@ behind : (o m : ℕ) (os : List ℕ) → Contains os o → Contains (m ∷ os) o
 behind o m os at = (suc at.0, omega (arith, at.1), at.2)
 
 -- Under another ordinal nothing is found.
-lacks : {X : Type 0} (o : ℕ) (es : List (ℕ × X)) → (Contains (keys_of es) o → ⊥) → find nat_cmp o es ≡ None
+pub lacks : {X : Type 0} (o : ℕ) (es : List (ℕ × X)) → (Contains (keys_of es) o → ⊥) → find nat_cmp o es ≡ None
 lacks o [] none = refl
 lacks o (e ∷ es) none = skipped o e es (λ same. none (0, omega arith, sym same)) ∙ lacks o es (λ at. none (behind o e.0 (keys_of es) at))
 
@@ -59,7 +57,7 @@ pub removed_keys : (os : List ℕ) → keys_of (map removal os) ≡ os
 removed_keys [] = refl
 removed_keys (o ∷ os) = ap (λ rest. o ∷ rest) (removed_keys os)
 
-removed_found : (os : List ℕ) (o : ℕ) → Contains os o → find nat_cmp o (map removal os) ≡ Some None
+pub removed_found : (os : List ℕ) (o : ℕ) → Contains os o → find nat_cmp o (map removal os) ≡ Some None
 removed_found [] o at = absurd (omega (arith, at.1))
 removed_found (r ∷ os) o (zero, inside, is) = found o (removal r) (map removal os) (sym is)
 removed_found (r ∷ os) o (suc k, inside, is) = elim (cases_eq o r) [
@@ -74,14 +72,20 @@ module _ (shape : Shape) (patch : PatchSection) (old : RowMap) (ds : Differences
   live : (o : ℕ) → Contains patch.removed o → IsSome (get old o)
   live o at = All-contains (λ m. IsSome (get old m)) patch.removed o d.removable.live at
 
-  not_added : (o : ℕ) → (Contains patch.added o → ⊥) → find nat_cmp o ds.added.items ≡ None
-  not_added o out = lacks o ds.added.items (λ at. out (subst (λ os. Contains os o) d.added.keys at))
+  not_added : (o : ℕ) → (Contains patch.added o → ⊥) → find nat_cmp o (added_of ds) ≡ None
+  not_added o out = lacks o (added_of ds) (λ at. out (subst (λ os. Contains os o) d.added.keys at))
 
-  removed_are : keys_of ds.removed.items ≡ patch.removed
+  removed_are : keys_of (removed_of ds) ≡ patch.removed
   removed_are = ap keys_of d.removed ∙ removed_keys patch.removed
 
-  not_removed : (o : ℕ) → (Contains patch.removed o → ⊥) → find nat_cmp o ds.removed.items ≡ None
-  not_removed o out = lacks o ds.removed.items (λ at. out (subst (λ os. Contains os o) removed_are at))
+  few : places_of patch.max ≤ 2 ^ 22
+  few = omega (arith, d.readable.few)
+
+  here : (P : PatchSection → Type 0) → P patch → P ds.patch.now
+  here P h = subst P (sym d.lent) h
+
+  not_removed : (o : ℕ) → (Contains patch.removed o → ⊥) → find nat_cmp o (removed_of ds) ≡ None
+  not_removed o out = lacks o (removed_of ds) (λ at. out (subst (λ os. Contains os o) removed_are at))
 
   pub are_apart : AreApart ds
   are_apart = record {
@@ -89,12 +93,19 @@ module _ (shape : Shape) (patch : PatchSection) (old : RowMap) (ds : Differences
     added = subst (IsStrictlySortedBy nat_cmp) (sym d.added.keys) (sorted_from_strictly_increasing patch.added d.addable.rise);
     apart = λ o some. elim (has_or patch.added o) [
       | inl at ↦ not_removed o (λ gone. none_is_not (get old o) (free o at) (live o gone))
-      | inr out ↦ absurd (none_is_not (find nat_cmp o ds.added.items) (not_added o out) some)
+      | inr out ↦ absurd (none_is_not (find nat_cmp o (added_of ds)) (not_added o out) some)
     ];
+    readable = subst (λ s. IsReadablePatch s ds.patch.now) (sym d.of) (here (IsReadablePatch shape) d.readable);
+    spelled = subst (λ s. AreSpelled s ds.patch.now) (sym d.of) (here (AreSpelled shape) d.spelled);
+    gone_rise = here (λ p. IsStrictlyIncreasing p.removed) d.removable.rise;
+    gone_small = here (λ p. All (λ o. o < 2 ^ 32) p.removed) d.small;
+    come_rise = here (λ p. IsStrictlyIncreasing p.added) d.addable.rise;
+    come_placed = here (λ p. All (λ o. o < places_of p.max) p.added) d.addable.placed;
+    come_small = here (λ p. All (λ o. o < 2 ^ 32 - 1) p.added) (λ k e inside. (let low = d.addable.placed k e inside in omega (arith, low, few)));
   }
 
-  rise : RiseFrom 0 (keys_of ds.added.items)
-  rise = from_sorted (keys_of ds.added.items) are_apart.added
+  rise : RiseFrom 0 (keys_of (added_of ds))
+  rise = from_sorted (keys_of (added_of ds)) are_apart.added
 
   some_row : (rows : List Row) (place : ℕ) (rest : Option Row) → place < length rows → either (option_map present (slice_get rows place)) rest ≡ slice_get rows place
   some_row [] place rest inside = absurd (omega arith)
@@ -106,18 +117,18 @@ module _ (shape : Shape) (patch : PatchSection) (old : RowMap) (ds : Differences
   are_moves = record {
     gone = λ o at.
         get_with old ds are_apart o
-        ∙ ap (λ f. either f (either (find nat_cmp o ds.removed.items) (get old o))) (not_added o (λ came. none_is_not (get old o) (free o came) (live o at)))
+        ∙ ap (λ f. either f (either (find nat_cmp o (removed_of ds)) (get old o))) (not_added o (λ came. none_is_not (get old o) (free o came) (live o at)))
         ∙ ap (λ f. either f (get old o)) (ap (find nat_cmp o) d.removed ∙ removed_found patch.removed o at);
     came = λ place o at.
         (let inside = slice_get_within patch.added place o at in
         let each = d.added.adds.each in
         get_with old ds are_apart o
-        ∙ ap (λ f. either f (either (find nat_cmp o ds.removed.items) (get old o)))
-        (found_at_place 0 ds.added.items place o rise (ap (λ os. slice_get os place) d.added.keys ∙ at) ∙ ap (λ rs. slice_get rs place) d.added.are ∙ slice_get-map present d.added.rows place)
-        ∙ some_row d.added.rows place (either (find nat_cmp o ds.removed.items) (get old o)) (omega (arith, each, inside)));
+        ∙ ap (λ f. either f (either (find nat_cmp o (removed_of ds)) (get old o)))
+        (found_at_place 0 (added_of ds) place o rise (ap (λ os. slice_get os place) d.added.keys ∙ at) ∙ ap (λ rs. slice_get rs place) d.added.are ∙ slice_get-map present d.added.rows place)
+        ∙ some_row d.added.rows place (either (find nat_cmp o (removed_of ds)) (get old o)) (omega (arith, each, inside)));
     kept = λ o removed added.
         get_with old ds are_apart o
-        ∙ ap (λ f. either f (either (find nat_cmp o ds.removed.items) (get old o))) (not_added o added)
+        ∙ ap (λ f. either f (either (find nat_cmp o (removed_of ds)) (get old o))) (not_added o added)
         ∙ ap (λ f. either f (get old o)) (not_removed o removed);
   }
 
@@ -146,15 +157,7 @@ module _ (shape : Shape) (patch : PatchSection) (old : RowMap) (ds : Differences
   pub leads : LeadsTo shape patch old (rows_with old ds)
   leads = record { ordinals = d.ordinals; rows = d.added.rows; adds = d.added.adds; moves = are_moves }
 
-  pub added_small : places_of patch.max ≤ 2 ^ 22 → AreBelow (2 ^ 32 - 1) ds.added.items
-  added_small few k e inside =
-      let long = length-map ds.added.items (λ (f : Difference). f.0) in
-      let mapped = get_or-map (λ (f : Difference). f.0) ds.added.items k e 0 inside in
-      let placed : All (λ o. o < places_of patch.max) (keys_of ds.added.items) = subst (All (λ o. o < places_of patch.max)) (sym d.added.keys) d.addable.placed in
-      let low = placed k 0 (omega (arith, long, inside)) in
-      omega (arith, low, mapped, few)
-
-  pub removed_below : AreBelow (bound_of (keys old)) ds.removed.items
+  pub removed_below : AreBelow (bound_of (keys old)) (removed_of ds)
   removed_below = subst (AreBelow (bound_of (keys old))) (sym d.removed) (each patch.removed (λ o at. below_bound old o (live o at)))
     where
       each : (os : List ℕ) → ((o : ℕ) → Contains os o → o < bound_of (keys old)) → AreBelow (bound_of (keys old)) (map removal os)

@@ -1,28 +1,27 @@
 -- Records that are copied one by one from their half, under rising ordinals.
-use Rattle.std.proofs.Common.{◌≡◌, inl, inr, ℕ, zero, suc, ◌+◌, ◌-◌, ◌*◌, ◌^◌, ◌<◌, ◌≤◌, List, [], ◌∷◌, length, get_or, map, Option, None, Some, refl, sym, ap, ◌∙◌, subst, arith}
-use Rattle.std.specs.Prelude.{All, IfSome, IsSome, replicate, slice_get, slice_index, sum}
+use Rattle.std.proofs.Common.{◌≡◌, inl, inr, ℕ, zero, suc, ◌+◌, ◌-◌, ◌*◌, ◌^◌, ◌<◌, ◌≤◌, List, [], ◌∷◌, length, get_or, map, Option, Some, refl, sym, ap, ◌∙◌, subst, arith}
+use Rattle.std.specs.Prelude.{All, IsSome, replicate, slice_get, slice_index, sum}
 use Rattle.std.specs.List.{AllZip, enumerate_from, range_with_len}
 use Rattle.std.specs.List.Sorted.{IsStrictlyIncreasing}
 use Rattle.std.specs.FinMap.{get}
 use Rattle.std.proofs.Math.Nat.{mul-le-mul_right}
 use Rattle.std.proofs.lemmas.Bool.{cases_eq, cases_lt}
 use Rattle.std.proofs.lemmas.List.{length-map}
-use Rattle.std.proofs.lemmas.List.FromFn.{get_or-map-range_with_len, length-map-range_with_len}
-use Rattle.std.proofs.lemmas.Option.{get_or_from_slice_get, slice_get-get_or, slice_get_within}
+use Rattle.std.proofs.lemmas.List.FromFn.{length-map-range_with_len}
+use Rattle.std.proofs.lemmas.Option.{get_or_from_slice_get, slice_get_within}
 use Rattle.bit_array.specs.Element.{words_of}
 use Rattle.schema_model.specs.Parts.{shape_fields}
 use Rattle.schema_model.specs.declared.schema.Field.{Field}
 use Rattle.schema_model.specs.declared.schema.Shape.{Shape}
-use Rattle.row_model.specs.Row.{FitsShape, stored_row}
 use Rattle.row_model.specs.Table.{RowMap}
 use Rattle.row_model.specs.declared.row.Row.{Row}
-use Rattle.object_codec.specs.ObjectPlace.{HoldsPlace, IsFieldWidth, IsObject, SpellsObjectRow}
-use Rattle.object_codec.specs.Packing.{CanPack, HasBytes, HasRoom, HoldsValue, IsPacked as ArePacked, IsRowPut, IsWidthFor, areas_for, values_of_place}
+use Rattle.object_codec.specs.ObjectPlace.{IsFieldWidth, SpellsObjectRow}
+use Rattle.object_codec.specs.Packing.{CanPack, HasRoom, IsPacked as ArePacked, IsRowPut, IsWidthFor, values_of_place}
 use Rattle.object_codec.specs.Stored.{column, value_at, values_bytes}
 use Rattle.object_codec.proofs.ByteCounts.{byte_count-append}
 use Rattle.object_codec.proofs.PlacesPacked.{PackedSoFar, bits_small, packed_all, packed_more, packed_none, place_room}
 use Rattle.packed_half.specs.declared.half.HalfShape.{HalfShape}
-use Rattle.packed_half.specs.Laying.{CanLay, places_in}
+use Rattle.packed_half.specs.Laying.{places_in}
 use Rattle.packed_half.proofs.PlacedRecords.{can_pack}
 use Rattle.packed_half.proofs.RowPlaces.{placed_in}
 use Rattle.type_rows.specs.Layout.{places_of}

@@ -1,23 +1,25 @@
 -- Records at their places, as rows come and go.
-use Rattle.std.proofs.Common.{◌≡◌, ℕ, ◌+◌, ◌*◌, ◌^◌, ◌<◌, ◌≤◌, inl, inr, List, length, get_or, drop, Option, None, Some, refl, ap, sym, subst, ◌∙◌, arith}
+use Rattle.std.proofs.Common.{◌≡◌, ℕ, ◌+◌, ◌*◌, ◌^◌, ◌<◌, ◌≤◌, ◌⊎◌, inl, inr, List, length, get_or, drop, Option, None, Some, refl, ap, sym, subst, ◌∙◌, arith}
 use Rattle.std.specs.Prelude.{sum}
 use Rattle.std.specs.FinMap.{get}
 use Rattle.std.proofs.Math.Nat.{mul-le-mul_right}
-use Rattle.std.proofs.lemmas.Bool.{cases_eq}
+use Rattle.std.proofs.lemmas.Bool.{cases_eq, cases_lt}
 use Rattle.std.proofs.lemmas.List.{at_drop_more, drop_all}
 use Rattle.schema_model.specs.declared.schema.Shape.{Shape}
 use Rattle.schema_model.specs.Parts.{shape_fields}
 use Rattle.row_model.specs.declared.row.Row.{Row}
 use Rattle.row_model.specs.Row.{stored_row}
 use Rattle.row_model.specs.Table.{RowMap}
-use Rattle.object_codec.specs.ObjectPlace.{SpellsObjectRow}
+use Rattle.object_codec.specs.ObjectPlace.{HoldsPlace, SpellsObjectRow}
 use Rattle.object_codec.specs.Packing.{PacksPlace}
-use Rattle.record_copies.specs.Fixed.{AreFixed, AreOthersKept, HasRecordRoom, record_at}
+use Rattle.record_copies.specs.Fixed.{AreFixed, AreOthersKept, record_at}
 use Rattle.record_copies.proofs.RecordBits.{empty_place, gap_row_moved, row_moved}
+use Rattle.bit_array.specs.Element.{element_of}
+use Rattle.type_rows.specs.declared.patch.PatchSection.{PatchSection}
 use Rattle.type_rows.specs.Differing.{Difference, differ_at}
 use Rattle.type_rows.proofs.DifferingAt.{differs_here, differs_there}
 use Rattle.type_state.specs.Differences.{differing}
-use Rattle.type_state.specs.Recorded.{AreRecorded, FitsRecord, HasPlaces}
+use Rattle.type_state.specs.Recorded.{AreRecorded, HasPlaces}
 
 -- ---- one difference
 
@@ -40,32 +42,11 @@ placed shape widths first first' places d fixed here others rows are areas long 
       (moved_place shape widths first first' areas areas place (get rows place) fixed refl (sym (others place other)) (are areas long place inside))
 ]
 
--- A row that comes.
-pub come : (shape : Shape) (widths first first' : List ℕ) (places o : ℕ) (slot : Option Row) (row : Row) → AreFixed (shape_fields shape) → slot ≡ Some row → ((areas : List (List ℕ)) → length areas ≡ length (shape_fields shape) → SpellsObjectRow shape widths first' areas o (stored_row row))
-    → AreOthersKept widths first first' o → (rows : RowMap) → AreRecorded shape widths first places rows → AreRecorded shape widths first' places (differ_at rows (o, slot))
-come shape widths first first' places o slot row fixed is spelled others =
-    placed shape widths first first' places (o, slot) fixed (λ areas long. subst (PacksPlace shape widths first' areas o) (sym is) (spelled areas long)) others
-
 -- No row comes.
 pub gone : (shape : Shape) (widths first first' : List ℕ) (places o : ℕ) (slot : Option Row) → AreFixed (shape_fields shape) → length widths ≡ length (shape_fields shape) → slot ≡ None → record_at widths first' o ≡ 0 → AreOthersKept widths first first' o → (rows : RowMap)
     → AreRecorded shape widths first places rows → AreRecorded shape widths first' places (differ_at rows (o, slot))
 gone shape widths first first' places o slot fixed wide is clear others =
     placed shape widths first first' places (o, slot) fixed (λ areas long. subst (PacksPlace shape widths first' areas o) (sym is) (empty_place shape widths first' areas o fixed wide long clear)) others
-
--- There is room for the row.
-pub room_there : (shape : Shape) (widths first : List ℕ) (places o : ℕ) (row : Row) → HasPlaces shape widths first places → FitsRecord shape widths row → o < places → HasRecordRoom shape widths first o row
-room_there shape widths first places o row h fits inside = record {
-  object = h.object;
-  fixed = h.fixed;
-  holds = record {
-    few = h.few;
-    wide = h.wide (omega (arith, inside));
-    within = (let less : (o + 1) * sum widths ≤ places * sum widths = mul-le-mul_right (sum widths) (omega (arith, inside)) in omega (arith, less, h.within));
-    below = omega (arith, inside, h.below);
-  };
-  fits = fits.0;
-  numbers = fits.1;
-}
 
 pub bits_there : (widths first : List ℕ) (places o : ℕ) → places * sum widths ≤ 64 * length first → places * sum widths < 2 ^ 64 → o < places → ((o + 1) * sum widths ≤ 64 * length first) × ((o + 1) * sum widths < 2 ^ 64)
 bits_there widths first places o within counted inside =
@@ -110,3 +91,38 @@ written_all shape widths initial now places ds index w past rows are =
     let so = w.more rows are in
     let same : so.0 ≡ differing rows ds = sym (ap (differing so.0) (drop_all index ds past)) ∙ so.2 in
     subst (AreRecorded shape widths now places) same so.1
+
+-- ---- records of a patch
+
+-- Bits that are copied are the record of the place.
+pub record_same : (widths new from : List ℕ) (size o place : ℕ) → size ≡ sum widths → element_of new (o * size + 0) size ≡ element_of from (place * size + 0) size → record_at widths new o ≡ record_at widths from place
+record_same widths new from size o place is same =
+    let all = subst (λ s. element_of new (o * s + 0) s ≡ element_of from (place * s + 0) s) is same in
+    let here : o * sum widths + 0 ≡ o * sum widths = omega arith in
+    let there : place * sum widths + 0 ≡ place * sum widths = omega arith in
+    sym (ap (λ at. element_of new at (sum widths)) here) ∙ all ∙ ap (λ at. element_of from at (sum widths)) there
+
+pub others_same : (widths old new : List ℕ) (size o : ℕ) → size ≡ sum widths → ((bit width : ℕ) → (bit + width ≤ o * size) ⊎ (o * size + size ≤ bit) → element_of new bit width ≡ element_of old bit width) → AreOthersKept widths old new o
+others_same widths old new size o is kept other apart =
+    let all = subst (λ s. (bit width : ℕ) → (bit + width ≤ o * s) ⊎ (o * s + s ≤ bit) → element_of new bit width ≡ element_of old bit width) is kept in
+    all (other * sum widths) (sum widths)
+    (elim (cases_lt other o) [
+      | inl before ↦ (let less : (other + 1) * sum widths ≤ o * sum widths = mul-le-mul_right (sum widths) (omega arith) in inl (omega (arith, less)))
+      | inr behind ↦ (let more : (o + 1) * sum widths ≤ other * sum widths = mul-le-mul_right (sum widths) (omega (arith, apart, behind)) in inr (omega (arith, more)))
+    ])
+
+-- The record of a place of a patch stands where it is copied to.
+pub come_copied : (shape : Shape) (patch : PatchSection) (widths from first first' : List ℕ) (places o place : ℕ) (row : Row) → AreFixed (shape_fields shape) → widths ≡ patch.widths → from ≡ patch.first
+    → HoldsPlace (shape_fields shape) patch.widths patch.first patch.areas place → SpellsObjectRow shape patch.widths patch.first patch.areas place row → stored_row row ≡ row → record_at widths first' o ≡ record_at widths from place → AreOthersKept widths first first' o
+    → (rows : RowMap) → AreRecorded shape widths first places rows → AreRecorded shape widths first' places (differ_at rows (o, Some row))
+come_copied shape patch widths from first first' places o place row fixed one two holds spelled stored same others =
+    placed shape widths first first' places (o, Some row) fixed
+    (λ areas long.
+    let there : SpellsObjectRow shape widths from patch.areas place row = subst (λ w. SpellsObjectRow shape w from patch.areas place row) (sym one) (subst (λ f. SpellsObjectRow shape patch.widths f patch.areas place row) (sym two) spelled) in
+    let moved = row_moved shape widths from first' patch.areas areas place o row fixed (holds.filled ∙ sym long) (sym same) there in
+    subst (SpellsObjectRow shape widths first' areas o) (sym stored) moved) others
+
+-- The bits of a place of a patch can be counted.
+pub small_there : (place size : ℕ) → place < 2 ^ 22 → size ≤ 65536 → place * size + size < 2 ^ 64
+small_there place size low narrow =
+    let product : place * size ≤ 4194304 * size = mul-le-mul_right size (omega (arith, low)) in omega (arith, product, narrow)

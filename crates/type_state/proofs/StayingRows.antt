@@ -1,9 +1,10 @@
 -- Which rows that stay fit other widths: those of OBJECT types by the numbers of their fields, where these stand packed.
-use Rattle.std.proofs.Common.{◌≡◌, ℕ, ◌+◌, ◌<◌, ◌≤◌, inl, inr, zero, suc, List, [], ◌∷◌, length, get_or, Option, None, Some, refl, sym, ap, subst, ◌∙◌, arith}
+use Rattle.std.proofs.Common.{◌≡◌, ℕ, ◌+◌, ◌<◌, ◌≤◌, inl, inr, zero, suc, List, [], ◌∷◌, length, map, get_or, Option, None, Some, refl, sym, ap, subst, ◌∙◌, arith}
 use Rattle.std.specs.Prelude.{IsSome, is_some, slice_get, slice_index}
 use Rattle.std.specs.Ordering.{nat_cmp}
 use Rattle.std.specs.FinMap.{entries, find, get, get-entries, values}
 use Rattle.std.proofs.lemmas.Bool.{cases_eq, cases_lt}
+use Rattle.std.proofs.lemmas.List.{length-map}
 use Rattle.schema_model.specs.declared.schema.Field.{Field}
 use Rattle.schema_model.specs.declared.schema.FieldKind.{FieldKind}
 use Rattle.schema_model.specs.declared.schema.Shape.{Shape}
@@ -16,6 +17,8 @@ use Rattle.type_rows.specs.Holds.{FitsWidth, HoldsRows}
 use Rattle.column_rows.specs.OneType.{IsRowsBound}
 use Rattle.type_state.specs.Counted.{FitsSomewhere, IsNoNarrower, StayFitting}
 use Rattle.type_state.specs.Staying.{FieldStays, FitsBesideNull, FitsUnder}
+use Rattle.type_state.specs.Differences.{removal}
+use Rattle.type_state.proofs.Comings.{marked}
 use Rattle.type_state.proofs.Lookups.{found, skipped}
 use Rattle.type_state.proofs.Widening.{below_more_ones, fits_wider, held_found}
 
@@ -56,6 +59,12 @@ stay_more rows field width ds from next k d before run is inside low o below non
         absurd (some_not_none (find nat_cmp o ds) (subst (λ q. IsSome (find nat_cmp q ds)) (sym (ap (λ (e : Difference). e.0) is) ∙ same) (under_own ds k d inside)) none))
   ]
 ]
+
+-- The same of ordinals that are removed.
+pub stay_marked : (rows : RowMap) (field width : ℕ) (os : List ℕ) (from next k o : ℕ) → StayUpTo rows field width (map removal os) from → ((p : ℕ) → from ≤ p → p < o → FitsUnder rows field width p) → o ≡ get_or os k 0 → k < length os
+    → next ≤ o + 1 → StayUpTo rows field width (map removal os) next
+stay_marked rows field width os from next k o before run is inside =
+    stay_more rows field width (map removal os) from next k (removal o) before run (marked os k o is inside) (omega (arith, inside, length-map os removal))
 
 -- All of them, where those from the last difference on fit.
 pub stay_all : (rows : RowMap) (field width : ℕ) (ds : List Difference) (from bound : ℕ) → IsRowsBound rows bound → StayUpTo rows field width ds from → ((o : ℕ) → from ≤ o → o < bound → FitsUnder rows field width o)

@@ -16,7 +16,7 @@ use Rattle.type_rows.specs.Differing.{Difference}
 use Rattle.type_rows.specs.Totals.{AreTotals}
 use Rattle.type_rows.specs.WordsHeld.{part_bytes, row_bytes}
 use Rattle.type_state.specs.declared.differences.Differences.{Differences}
-use Rattle.type_state.specs.Differences.{differing}
+use Rattle.type_state.specs.Differences.{differing, added_of, removed_of}
 
 -- A row that comes is of the kind of its type.
 abbrev pub IsComing : Shape → Difference → Type 0
@@ -54,8 +54,8 @@ StayFitting shape widths differences rows = (ordinal : ℕ) (row : Row) → get 
 
 -- The rows that a move brings fit the widths somewhere.
 pub record ComeFitting (shape : Shape) (widths : List ℕ) (differences : Differences) : Type 0 where
-  pub removed : AreFitting shape widths differences.removed.items
-  pub added : AreFitting shape widths differences.added.items
+  pub removed : AreFitting shape widths (removed_of differences)
+  pub added : AreFitting shape widths (added_of differences)
 
 -- The last row, which is taken off and laid out again, fits, and the totals keep the limits.
 pub record HoldsLast (shape : Shape) (own : ℕ) (layout : Layout) (last : Row) (before after : Totals) : Type 0 where

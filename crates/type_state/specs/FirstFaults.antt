@@ -10,7 +10,6 @@ use Rattle.row_model.specs.Table.{RowMap}
 use Rattle.type_rows.specs.declared.ends.Ends.{Ends}
 use Rattle.type_rows.specs.declared.fault.RowFault.{RowFault}
 use Rattle.type_rows.specs.declared.patch.PatchSection.{PatchSection}
-use Rattle.type_rows.specs.declared.section.Section.{Section}
 use Rattle.type_rows.specs.Layout.{Layout}
 use Rattle.type_rows.specs.Holds.{HoldsRows}
 use Rattle.type_rows.specs.Patches.{places_in}

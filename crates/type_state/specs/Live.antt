@@ -1,19 +1,18 @@
--- Sets of live ordinals, from which those of differences are taken, and into which they are put.
+-- Sets of live ordinals, from which others are taken, and into which others are put.
 use Rattle.std.specs.Prelude.{ℕ, List, [], ◌∷◌}
 use Rattle.ordinal_set.specs.Ordinals.{with_ordinal, without_ordinal}
-use Rattle.type_rows.specs.Differing.{Difference}
 use Rattle.type_state.specs.declared.differences.Differences.{Differences}
 
--- The set without the ordinals of differences.
-unfoldable pub without_all : List ℕ → List Difference → List ℕ
+-- The set without some ordinals.
+unfoldable pub without_all : List ℕ → List ℕ → List ℕ
 without_all set [] = set
-without_all set (difference ∷ differences) = without_all (without_ordinal difference.0 set) differences
+without_all set (ordinal ∷ ordinals) = without_all (without_ordinal ordinal set) ordinals
 
--- The set with the ordinals of differences.
-unfoldable pub with_all : List ℕ → List Difference → List ℕ
+-- The set with some ordinals.
+unfoldable pub with_all : List ℕ → List ℕ → List ℕ
 with_all set [] = set
-with_all set (difference ∷ differences) = with_all (with_ordinal difference.0 set) differences
+with_all set (ordinal ∷ ordinals) = with_all (with_ordinal ordinal set) ordinals
 
--- The live ordinals of rows with differences of which the first ones are gone and the second ones come.
+-- The live ordinals of rows with differences of which those that the patch removes are gone and those that it adds come.
 abbrev pub live_with : List ℕ → Differences → List ℕ
-live_with live differences = with_all (without_all live differences.removed.items) differences.added.items
+live_with live differences = with_all (without_all live differences.patch.now.removed) differences.patch.now.added

@@ -14,10 +14,10 @@ use Rattle.type_rows.specs.Ends.{FitsBehind}
 use Rattle.type_rows.specs.Layout.{Layout, item_count, items_of_row, places_of}
 use Rattle.type_rows.specs.WordsHeld.{field_bytes, bytes_held, part_bytes, row_bytes}
 use Rattle.type_rows.specs.Holds.{HoldsRows, KeepsLimits}
-use Rattle.type_rows.specs.Patches.{AddsRows, FitsOrdinals, MovesRows, patch_layout}
+use Rattle.type_rows.specs.Patches.{AddsRows, FitsOrdinals, IsReadablePatch, MovesRows, patch_layout}
 use Rattle.type_rows.specs.MoveFault.{OrdinalsPass}
 use Rattle.type_state.specs.declared.differences.Differences.{Differences}
-use Rattle.type_state.specs.Differences.{present, removal}
+use Rattle.type_state.specs.Differences.{AreSpelled, present, removal, added_of, removed_of}
 
 -- The removed ordinals rise and are live.
 pub record AreRemovable (old : RowMap) (removed : List ℕ) : Type 0 where
@@ -40,11 +40,16 @@ pub record AreAdded (shape : Shape) (patch : PatchSection) (differences : List (
 -- No ordinal of a patch is bad beside the old rows, and these are the differences that it makes: no row under a removed ordinal, and under an added
 -- one the row that its place spells.
 pub record IsDifferent (shape : Shape) (patch : PatchSection) (old : RowMap) (differences : Differences) : Type 0 where
+  pub of : differences.schema.now.shape ≡ shape
+  pub lent : differences.patch.now ≡ patch
+  pub readable : IsReadablePatch shape patch
+  pub spelled : AreSpelled shape patch
+  pub small : All (λ ordinal. ordinal < 2 ^ 32) patch.removed
   pub ordinals : OrdinalsPass patch old
   pub removable : AreRemovable old patch.removed
   pub addable : AreAddable old (places_of patch.max) patch.added
-  pub removed : differences.removed.items ≡ map removal patch.removed
-  pub added : AreAdded shape patch differences.added.items
+  pub removed : (removed_of differences) ≡ map removal patch.removed
+  pub added : AreAdded shape patch (added_of differences)
 
 -- The rows are the old ones moved by the patch, and each has a place.
 pub record IsMoved (shape : Shape) (patch : PatchSection) (old new : RowMap) : Type 0 where

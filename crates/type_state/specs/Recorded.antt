@@ -1,19 +1,17 @@
 -- The records of OBJECT types: those without STRING and BYTES, as they stand at their places, in any order, and which halves may be copied.
-use Rattle.std.specs.Prelude.{◌≡◌, ℕ, ◌-◌, ◌*◌, ◌^◌, ◌<◌, ◌≤◌, ◌++◌, List, length, replicate, sum, take, slice_get, slice_index, Some, IfSome, IsSome}
+use Rattle.std.specs.Prelude.{◌≡◌, ℕ, ◌-◌, ◌*◌, ◌^◌, ◌<◌, ◌≤◌, ◌++◌, List, length, replicate, sum, take, IsSome}
 use Rattle.std.specs.List.{AllZip}
 use Rattle.std.specs.FinMap.{get}
 use Rattle.schema_model.specs.Parts.{shape_fields}
 use Rattle.schema_model.specs.declared.schema.Shape.{Shape}
-use Rattle.row_model.specs.Row.{FitsShape}
+use Rattle.row_model.specs.Row.{stored_row}
 use Rattle.row_model.specs.Table.{RowMap}
 use Rattle.row_model.specs.declared.row.Row.{Row}
 use Rattle.object_codec.specs.ObjectPlace.{IsFieldWidth, IsObject}
-use Rattle.object_codec.specs.Packing.{HoldsValue, PacksPlace}
-use Rattle.object_codec.specs.Stored.{values_of_row}
+use Rattle.object_codec.specs.Packing.{PacksPlace}
 use Rattle.record_copies.specs.Fixed.{AreFixed, whole_words}
 use Rattle.packed_half.specs.declared.half.HalfShape.{HalfShape}
 use Rattle.packed_half.specs.Half.{words_for}
-use Rattle.type_rows.specs.Differing.{Difference}
 use Rattle.type_rows.specs.Layout.{places_of}
 
 -- Each place spells the row that stands under its ordinal, or has none.
@@ -47,13 +45,9 @@ kept_words before after = whole_words after.widths (places_of before.max) (place
 abbrev pub copied_words : Shape → HalfShape → HalfShape → List ℕ → List ℕ
 copied_words shape before after words = take (kept_words before after) words ++ replicate (words_for shape after - kept_words before after) 0
 
--- A row fits the type, and the widths hold its numbers.
-abbrev pub FitsRecord : Shape → List ℕ → Row → Type 0
-FitsRecord shape widths row = FitsShape shape row × ((index : ℕ) → IfSome (slice_get (values_of_row row) index) (HoldsValue (slice_index widths index)))
-
--- A row that comes under an ordinal with a place fits there.
-abbrev pub HasRoomFor : Shape → List ℕ → ℕ → Difference → Type 0
-HasRoomFor shape widths places difference = (row : Row) → difference.1 ≡ Some row → difference.0 < places → FitsRecord shape widths row
+-- The row is as it is stored: it has no least INT and no least LONG, which stand as null.
+abbrev pub IsStored : Row → Type 0
+IsStored row = stored_row row ≡ row
 
 -- A half of records, which may be copied run by run to another one.
 pub record CanCopyRuns (shape : Shape) (before : HalfShape) : Type 0 where

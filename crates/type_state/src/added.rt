@@ -1,37 +1,78 @@
-//! The rows that a patch adds.
+//! The test of the places of the rows that a patch adds.
 ghost use Rattle.std.specs.Prelude.{◌<◌, All, MatchResult};
 ghost use Rattle.std.specs.List.Sorted.{IsStrictlyIncreasing};
+ghost use Rattle.object_codec.specs.ObjectPlace.{IsObject};
 ghost use Rattle.type_rows.specs.Layout.{places_of};
 ghost use Rattle.type_rows.specs.Patches.{IsReadablePatch};
+ghost use Rattle.type_state.specs.Differences.{AreSpelled};
 ghost use Rattle.type_state.specs.FirstFaults.{FailsAdds};
-ghost use Rattle.type_state.specs.Moving.{AreAdded};
 
-use crate::differences::Difference;
+use object_codec::first_fault;
 use row_model::PlaceFault;
-use schema_model::Schema;
+use schema_model::{Schema, Shape};
 use std::alloc::Global;
 use type_rows::{PatchSection, RowFault};
 
-/// The added ordinals, which have places, each with the row that its place spells, or the first whose place spells none, and why.
+/// Tests that each place spells a record: the fault is that of the first that does not. No row is made.
 ///
-/// The place of each is read, and starts where the one before ends, so that no element, bucket or byte is read twice.
-pub(crate) fn read_added(
-    alloc: Global,
-    schema: &Schema,
-    patch: &PatchSection,
-) -> Result<Vec<Difference>, RowFault>
+/// It takes memory for the numbers of the places.
+fn test_records(alloc: Global, schema: &Schema, patch: &PatchSection) -> Result<(), RowFault>
+    requires object { IsObject schema.now.shape }
     requires readable { IsReadablePatch schema.now.shape patch.now }
     requires rising { IsStrictlyIncreasing patch.now.added }
     requires placed { All (λ ordinal. ordinal < places_of patch.now.max) patch.now.added }
-    ensures { MatchResult result (λ rows. AreAdded schema.now.shape patch.now rows.items) (FailsAdds schema.now.shape patch.now) }
+    ensures { MatchResult result (λ _. AreSpelled schema.now.shape patch.now) (FailsAdds schema.now.shape patch.now) }
 {
-    let mut rows = Vec::with_capacity(alloc, patch.added.len())?;
+    let mut places = Vec::with_capacity(alloc, patch.added.len())?;
+    for place in 0..patch.added.len() {
+        places.push(place as u32)?;
+    }
+    let found = first_fault(
+        alloc,
+        schema.shape.fields(),
+        patch.widths.as_slice(),
+        patch.first.as_slice(),
+        patch.areas.as_slice(),
+        places.as_slice(),
+    )?;
+    match found {
+        None => Ok(()),
+        Some((place, reason)) => Err(RowFault::At(reason, patch.added.as_slice()[place as usize])),
+    }
+}
+
+/// Tests that each place spells a row, which is made and dropped: the fault is that of the first that does not.
+///
+/// The place of each is read, and starts where the one before ends, so that no element or bucket is read twice.
+fn test_rows(alloc: Global, schema: &Schema, patch: &PatchSection) -> Result<(), RowFault>
+    requires readable { IsReadablePatch schema.now.shape patch.now }
+    requires rising { IsStrictlyIncreasing patch.now.added }
+    requires placed { All (λ ordinal. ordinal < places_of patch.now.max) patch.now.added }
+    ensures { MatchResult result (λ _. AreSpelled schema.now.shape patch.now) (FailsAdds schema.now.shape patch.now) }
+{
     for (place, ordinal) in patch.added.as_slice().iter().enumerate() {
         match patch.row_at(alloc, schema, place as u64) {
-            Ok(row) => rows.push((*ordinal as u32, Some(row)))?,
+            Ok(_) => {}
             Err(PlaceFault::Bad(reason)) => return Err(RowFault::At(reason, *ordinal)),
             Err(PlaceFault::Memory) => return Err(RowFault::Memory),
         }
     }
-    Ok(rows)
+    Ok(())
+}
+
+/// Tests that each place of a patch spells a row: the fault is that of the first that does not, and why.
+pub(crate) fn test_added(
+    alloc: Global,
+    schema: &Schema,
+    patch: &PatchSection,
+) -> Result<(), RowFault>
+    requires readable { IsReadablePatch schema.now.shape patch.now }
+    requires rising { IsStrictlyIncreasing patch.now.added }
+    requires placed { All (λ ordinal. ordinal < places_of patch.now.max) patch.now.added }
+    ensures { MatchResult result (λ _. AreSpelled schema.now.shape patch.now) (FailsAdds schema.now.shape patch.now) }
+{
+    match &schema.shape {
+        Shape::Object(_, _) => test_records(alloc, schema, patch),
+        _ => test_rows(alloc, schema, patch),
+    }
 }

@@ -12,7 +12,7 @@ ghost use Rattle.type_state.specs.Moving.{IsHeld};
 ghost use Rattle.type_state.specs.Counted.{ComeFitting, HoldsLast};
 ghost use Rattle.type_state.specs.Leaving.{AreStanding};
 
-use crate::counting::exchange_rows;
+use crate::counting::{add_rows, take_rows};
 use crate::leaving::{Leaving, leaving_of};
 use crate::packed_rows::PackedRows;
 use crate::planning::Plan;
@@ -24,31 +24,32 @@ use type_rows::{MOST_ITEMS, Outline, Totals, counted_words};
 
 /// Counts the rows that come and go, and tells whether each part of those that come fits its width and the bytes keep the limit.
 fn count_change(
+    alloc: Global,
     totals: &mut Totals,
-    shape: &Shape,
-    next: &Plan,
+    next: &Plan<'_, '_>,
     leaving: &Leaving<'_>,
     rows: &PackedRows<'_>,
-) -> bool
-    requires widths { length next.now.outline.widths ≡ width_count shape.now }
+) -> Result<bool, AllocError>
+    requires widths { length next.now.outline.widths ≡ width_count next.now.differences.schema.now.shape }
     requires narrow { (part : ℕ) → slice_index next.now.outline.widths part ≤ 64 }
-    requires long { length totals.old.ends.offsets.items ≡ length (shape_fields shape.now) }
+    requires long { length totals.old.ends.offsets.items ≡ length (shape_fields next.now.differences.schema.now.shape) }
     requires standing { AreStanding rows.now.rows leaving.now }
-    requires enough { length leaving.now.columns.items ≤ length (shape_fields shape.now) }
-    requires kinds { AreOfKind shape.now (rows_with rows.now.rows next.now.differences) }
+    requires enough { length leaving.now.columns.items ≤ length (shape_fields next.now.differences.schema.now.shape) }
+    requires kinds { AreOfKind next.now.differences.schema.now.shape (rows_with rows.now.rows next.now.differences) }
     requires apart { AreApart next.now.differences }
     requires totals { AreTotals (values rows.now.rows) totals.old }
-    ensures totals { IsTrue result → AreTotals (values (rows_with rows.now.rows next.now.differences)) totals.new }
-    ensures fits { IsTrue result → ComeFitting shape.now next.now.outline.widths next.now.differences }
-    ensures long { IsTrue result → length totals.new.ends.offsets.items ≡ length (shape_fields shape.now) }
+    ensures totals { IfOk result (λ fit. IsTrue fit → AreTotals (values (rows_with rows.now.rows next.now.differences)) totals.new) }
+    ensures fits { IfOk result (λ fit. IsTrue fit → ComeFitting next.now.differences.schema.now.shape next.now.outline.widths next.now.differences) }
+    ensures long { IfOk result (λ fit. IsTrue fit → length totals.new.ends.offsets.items ≡ length (shape_fields next.now.differences.schema.now.shape)) }
 {
+    take_rows(
+        totals,
+        leaving,
+        rows,
+        next.differences.patch.removed.as_slice(),
+    );
     let widths = next.outline.widths.as_slice();
-    let removed = next.differences.removed.as_slice();
-    if !exchange_rows(totals, shape, widths, leaving, rows, removed) {
-        return false;
-    }
-    let added = next.differences.added.as_slice();
-    exchange_rows(totals, shape, widths, leaving, rows, added)
+    add_rows(alloc, totals, widths, leaving, rows, &next.differences)
 }
 
 /// Lays out the last row again, behind all the others, and tells whether each part of it fits its width there and the limits are kept.
@@ -76,42 +77,46 @@ fn holds_last(totals: &mut Totals, shape: &Shape, own: u32, outline: &Outline, l
 /// where it stands.
 pub(crate) fn totals_by_change(
     alloc: Global,
-    schema: &Schema,
-    next: &Plan,
+    next: &Plan<'_, '_>,
     rows: &PackedRows<'_>,
 ) -> Result<Option<Totals>, AllocError>
-    requires widths { length next.now.outline.widths ≡ width_count schema.now.shape }
+    requires widths { length next.now.outline.widths ≡ width_count next.now.differences.schema.now.shape }
     requires narrow { (part : ℕ) → slice_index next.now.outline.widths part ≤ 64 }
-    requires before { AreOfKind schema.now.shape rows.now.rows }
-    requires kinds { AreOfKind schema.now.shape (rows_with rows.now.rows next.now.differences) }
+    requires before { AreOfKind next.now.differences.schema.now.shape rows.now.rows }
+    requires kinds { AreOfKind next.now.differences.schema.now.shape (rows_with rows.now.rows next.now.differences) }
     requires apart { AreApart next.now.differences }
-    requires held { HoldsRows schema.now.shape rows.now.widths [] (values rows.now.rows) }
-    ensures held { IfOk result (λ told. IfSome told (λ sums. IsHeld schema.now.shape next.now.own (layout_at next.now.outline) (rows_with rows.now.rows next.now.differences))) }
+    requires held { HoldsRows next.now.differences.schema.now.shape rows.now.widths [] (values rows.now.rows) }
+    ensures held { IfOk result (λ told. IfSome told (λ sums. IsHeld next.now.differences.schema.now.shape next.now.own (layout_at next.now.outline) (rows_with rows.now.rows next.now.differences))) }
     ensures totals { IfOk result (λ told. IfSome told (AreTotals (values (rows_with rows.now.rows next.now.differences)))) }
-    ensures long { IfOk result (λ told. IfSome told (λ sums. length sums.ends.offsets.items ≡ length (shape_fields schema.now.shape))) }
+    ensures long { IfOk result (λ told. IfSome told (λ sums. length sums.ends.offsets.items ≡ length (shape_fields next.now.differences.schema.now.shape))) }
 {
     if next.outline.bound == 0 {
         return Ok(None);
     }
     let widths = next.outline.widths.as_slice();
-    let removed = next.differences.removed.as_slice();
-    if !stay_fitting(rows, &schema.shape, widths, removed) {
+    let removed = next.differences.patch.removed.as_slice();
+    if !stay_fitting(rows, &next.differences.schema.shape, widths, removed) {
         return Ok(None);
     }
-    let Some(leaving) = leaving_of(alloc, rows, &schema.shape)? else {
+    let Some(leaving) = leaving_of(alloc, rows, &next.differences.schema.shape)? else {
         return Ok(None);
     };
     let mut sums = rows.totals(alloc)?;
-    if sums.ends.offsets.len() != schema.shape.fields().len() {
+    if sums.ends.offsets.len() != next.differences.schema.shape.fields().len() {
         return Ok(None);
     }
-    if !count_change(&mut sums, &schema.shape, next, &leaving, rows) {
+    if !count_change(alloc, &mut sums, next, &leaving, rows)? {
         return Ok(None);
     }
     match next.differences.find(alloc, rows, next.outline.bound - 1)? {
-        Some(last) if holds_last(&mut sums, &schema.shape, next.own, &next.outline, &last) => Ok(
-            Some(sums),
-        ),
+        Some(last)
+            if holds_last(
+                &mut sums,
+                &next.differences.schema.shape,
+                next.own,
+                &next.outline,
+                &last,
+            ) => Ok(Some(sums)),
         _ => Ok(None),
     }
 }

@@ -1,60 +1,54 @@
 //! Records of OBJECT types without STRING and BYTES that are copied as they stand, and written and cleared where they differ.
-ghost use Rattle.std.specs.Prelude.{◌≡◌, ◌*◌, ◌^◌, ◌<◌, All, IsTrue, sum};
+ghost use Rattle.std.specs.Prelude.{◌≡◌, ◌*◌, ◌^◌, ◌<◌, ℕ, IsTrue, length, map, sum};
 ghost use Rattle.row_model.specs.Table.{RowMap};
 ghost use Rattle.schema_model.specs.Parts.{shape_fields};
 ghost use Rattle.packed_half.specs.LaidOut.{IsLaidOut};
 ghost use Rattle.packed_half.specs.Laying.{CanLay};
 ghost use Rattle.object_codec.specs.ObjectPlace.{IsObject};
 ghost use Rattle.record_copies.specs.Fixed.{AreFixed, HasFront, whole_words};
-ghost use Rattle.type_rows.specs.Differing.{differ_at};
+ghost use Rattle.type_rows.specs.Patches.{places_in};
+ghost use Rattle.type_rows.specs.Rows.{row_in};
 ghost use Rattle.type_rows.specs.Layout.{places_of};
-ghost use Rattle.type_state.specs.Differences.{AreApart, differing, rows_with};
+ghost use Rattle.type_state.specs.Differences.{AreApart, added_of, differing, removal, rows_with};
 ghost use Rattle.type_state.specs.Kept.{IsPacked, half_rows};
-ghost use Rattle.type_state.specs.Recorded.{AreRecorded, CanCopy, HasPlaces, HasRoomFor, copied_words, kept_words};
+ghost use Rattle.type_state.specs.Moved.{IsOfPatch};
+ghost use Rattle.type_state.specs.Recorded.{AreRecorded, CanCopy, HasPlaces, IsStored, copied_words, kept_words};
 
-use crate::differences::Difference;
+use crate::differences::Differences;
 use crate::moving::Move;
+use bit_array::{copy_bits, total_width};
 use packed_half::{HalfRows, HalfShape};
-use record_copies::{clear_record, copy_rest, is_fixed, put_record, whole_words};
+use record_copies::{clear_record, copy_rest, is_fixed, whole_words};
 use schema_model::{Schema, Shape};
 use type_rows::{place_count, words_needed};
 
-/// Writes the row that comes under an ordinal with a place, or clears the place where none does.
-fn put_difference(
-    schema: &Schema,
-    widths: &[u32],
-    first: &mut [u64],
-    places: u64,
-    difference: &Difference,
-)
-    requires held { HasPlaces schema.now.shape widths.now first.old places }
-    requires room { HasRoomFor schema.now.shape widths.now places difference.now }
-    ensures { (rows : RowMap) → AreRecorded schema.now.shape widths.now first.old places rows → AreRecorded schema.now.shape widths.now first.new places (differ_at rows difference.now) }
+/// Clears the place of each of some ordinals; one without a place is passed over.
+fn clear_records(shape: &Shape, widths: &[u32], first: &mut [u64], places: u64, removed: &[u64])
+    requires { HasPlaces shape.now widths.now first.old places }
+    ensures { (rows : RowMap) → AreRecorded shape.now widths.now first.old places rows → AreRecorded shape.now widths.now first.new places (differing rows (map removal removed.now)) }
 {
-    let place = u64::from(difference.0);
-    if place >= places {
-        return;
-    }
-    match &difference.1 {
-        Some(row) => put_record(schema, widths, first, place, row),
-        None => clear_record(widths, first, place),
+    for ordinal in removed {
+        if *ordinal < places {
+            clear_record(widths, first, *ordinal);
+        }
     }
 }
 
-/// Writes the row that comes under the ordinal of each of some differences, or clears its place where none does; an ordinal without a place is passed over.
-fn put_differences(
-    schema: &Schema,
-    widths: &[u32],
-    first: &mut [u64],
-    places: u64,
-    differences: &[Difference],
-)
-    requires held { HasPlaces schema.now.shape widths.now first.old places }
-    requires room { All (HasRoomFor schema.now.shape widths.now places) differences.now }
-    ensures { (rows : RowMap) → AreRecorded schema.now.shape widths.now first.old places rows → AreRecorded schema.now.shape widths.now first.new places (differing rows differences.now) }
+/// Copies the records of a patch to the places of the ordinals that it adds, at the same widths. An ordinal without a place is passed
+/// over.
+fn bring_records(differences: &Differences<'_, '_>, widths: &[u32], first: &mut [u64], places: u64)
+    requires apart { AreApart differences.now }
+    requires widths { widths.now ≡ differences.now.patch.now.widths }
+    requires stored { (place : ℕ) → place < length differences.now.patch.now.added → IsStored (row_in differences.now.schema.now.shape (places_in differences.now.patch.now) place) }
+    requires held { HasPlaces differences.now.schema.now.shape widths.now first.old places }
+    ensures { (rows : RowMap) → AreRecorded differences.now.schema.now.shape widths.now first.old places rows → AreRecorded differences.now.schema.now.shape widths.now first.new places (differing rows (added_of differences.now)) }
 {
-    for difference in differences {
-        put_difference(schema, widths, first, places, difference);
+    let size = total_width(widths) as u64;
+    let from = differences.patch.first.as_slice();
+    for (place, ordinal) in differences.patch.added.as_slice().iter().enumerate() {
+        if *ordinal < places {
+            copy_bits(from, place as u64 * size, first, *ordinal * size, size);
+        }
     }
 }
 
@@ -101,11 +95,17 @@ pub(crate) fn can_copy(shape: &Shape, before: &HalfShape, after: &HalfShape) -> 
 
 /// Lays the rows of a move out in the words of its half, at the widths of the current half, whose words stand there already, as many as the records of
 /// both fill, with zeros behind them. It takes no memory.
-pub(crate) fn lay_fixed(schema: &Schema, current: HalfRows<'_>, next: &Move, words: &mut [u64])
+pub(crate) fn lay_fixed(
+    schema: &Schema,
+    current: HalfRows<'_>,
+    next: &Move<'_, '_>,
+    words: &mut [u64],
+)
     requires kept { IsPacked schema.now.shape current.half.now current.words.now }
     requires object { IsObject schema.now.shape }
     requires fixed { AreFixed (shape_fields schema.now.shape) }
     requires widths { next.now.half.widths ≡ current.half.now.widths }
+    requires of { IsOfPatch schema.now.shape next.now }
     requires apart { AreApart next.now.differences }
     requires can { CanLay schema.now.shape next.now.half (rows_with (half_rows schema.now.shape current.half.now current.words.now) next.now.differences) }
     requires front { words.old ≡ copied_words schema.now.shape current.half.now next.now.half current.words.now }
@@ -121,18 +121,7 @@ pub(crate) fn lay_fixed(schema: &Schema, current: HalfRows<'_>, next: &Move, wor
         words: current.words,
     };
     copy_places(standing, widths, first, places);
-    put_differences(
-        schema,
-        widths,
-        first,
-        places,
-        next.differences.removed.as_slice(),
-    );
-    put_differences(
-        schema,
-        widths,
-        first,
-        places,
-        next.differences.added.as_slice(),
-    );
+    let removed = next.differences.patch.removed.as_slice();
+    clear_records(&schema.shape, widths, first, places, removed);
+    bring_records(&next.differences, widths, first, places);
 }

@@ -48,26 +48,25 @@ fn lay_slot(
 /// of the first row that does not fit.
 fn lay_out(
     alloc: Global,
-    schema: &Schema,
-    next: &Plan,
+    next: &Plan<'_, '_>,
     rows: &PackedRows<'_>,
     ends: &mut Ends,
 ) -> Result<u64, RowFault>
-    requires widths { length next.now.outline.widths ≡ width_count schema.now.shape }
+    requires widths { length next.now.outline.widths ≡ width_count next.now.differences.schema.now.shape }
     requires narrow { (part : ℕ) → slice_index next.now.outline.widths part ≤ 64 }
-    requires kinds { AreOfKind schema.now.shape (rows_with rows.now.rows next.now.differences) }
+    requires kinds { AreOfKind next.now.differences.schema.now.shape (rows_with rows.now.rows next.now.differences) }
     requires apart { AreApart next.now.differences }
     requires bound { next.now.outline.bound ≡ bound_of (keys (rows_with rows.now.rows next.now.differences)) }
     requires zero { (field : ℕ) → slice_index ends.old.offsets.items field ≡ 0 }
-    requires long { length ends.old.offsets.items ≡ length (shape_fields schema.now.shape) }
+    requires long { length ends.old.offsets.items ≡ length (shape_fields next.now.differences.schema.now.shape) }
     requires none { ends.old.items ≡ 0 }
-    ensures { MatchResult result (AreLaidOut schema.now.shape next.now.outline.widths (values (rows_with rows.now.rows next.now.differences)) ends.new.offsets.items ends.new.items) (FailsHeld schema.now.shape next.now.own (layout_at next.now.outline) (rows_with rows.now.rows next.now.differences)) }
+    ensures { MatchResult result (AreLaidOut next.now.differences.schema.now.shape next.now.outline.widths (values (rows_with rows.now.rows next.now.differences)) ends.new.offsets.items ends.new.items) (FailsHeld next.now.differences.schema.now.shape next.now.own (layout_at next.now.outline) (rows_with rows.now.rows next.now.differences)) }
 {
     let mut bytes: u64 = 0;
     for ordinal in 0..next.outline.bound {
         let slot = next.differences.find(alloc, rows, ordinal)?;
         let more = lay_slot(
-            &schema.shape,
+            &next.differences.schema.shape,
             next.outline.widths.as_slice(),
             ordinal,
             &slot,
@@ -80,25 +79,20 @@ fn lay_out(
 
 /// Tests that the layout of a half holds its rows, laid out one behind the other, and that they keep the limit on words, then that on bytes;
 /// gives what they add up to. `Memory` comes also where they do, and have more than `MOST_ITEMS` elements, which then have no bits.
-fn test_all(
-    alloc: Global,
-    schema: &Schema,
-    next: &Plan,
-    rows: &PackedRows<'_>,
-) -> Result<Totals, RowFault>
-    requires widths { length next.now.outline.widths ≡ width_count schema.now.shape }
+fn test_all(alloc: Global, next: &Plan<'_, '_>, rows: &PackedRows<'_>) -> Result<Totals, RowFault>
+    requires widths { length next.now.outline.widths ≡ width_count next.now.differences.schema.now.shape }
     requires narrow { (part : ℕ) → slice_index next.now.outline.widths part ≤ 64 }
-    requires kinds { AreOfKind schema.now.shape (rows_with rows.now.rows next.now.differences) }
+    requires kinds { AreOfKind next.now.differences.schema.now.shape (rows_with rows.now.rows next.now.differences) }
     requires apart { AreApart next.now.differences }
     requires bound { next.now.outline.bound ≡ bound_of (keys (rows_with rows.now.rows next.now.differences)) }
-    ensures tells { MatchResult result (λ _. IsHeld schema.now.shape next.now.own (layout_at next.now.outline) (rows_with rows.now.rows next.now.differences)) (FailsHeld schema.now.shape next.now.own (layout_at next.now.outline) (rows_with rows.now.rows next.now.differences)) }
+    ensures tells { MatchResult result (λ _. IsHeld next.now.differences.schema.now.shape next.now.own (layout_at next.now.outline) (rows_with rows.now.rows next.now.differences)) (FailsHeld next.now.differences.schema.now.shape next.now.own (layout_at next.now.outline) (rows_with rows.now.rows next.now.differences)) }
     ensures totals { IfOk result (AreTotals (values (rows_with rows.now.rows next.now.differences))) }
-    ensures long { IfOk result (λ sums. length sums.ends.offsets.items ≡ length (shape_fields schema.now.shape)) }
+    ensures long { IfOk result (λ sums. length sums.ends.offsets.items ≡ length (shape_fields next.now.differences.schema.now.shape)) }
 {
-    let mut ends = Ends::new(alloc, &schema.shape)?;
-    let bytes = lay_out(alloc, schema, next, rows, &mut ends)?;
+    let mut ends = Ends::new(alloc, &next.differences.schema.shape)?;
+    let bytes = lay_out(alloc, next, rows, &mut ends)?;
     let words = counted_words(
-        &schema.shape,
+        &next.differences.schema.shape,
         next.own,
         next.outline.max,
         next.outline.widths.as_slice(),
@@ -120,23 +114,22 @@ fn test_all(
 /// held by their widths: all rows are walked only where it is not told by those that come and go.
 pub(crate) fn test_held(
     alloc: Global,
-    schema: &Schema,
-    next: &Plan,
+    next: &Plan<'_, '_>,
     rows: &PackedRows<'_>,
 ) -> Result<Totals, RowFault>
-    requires widths { length next.now.outline.widths ≡ width_count schema.now.shape }
+    requires widths { length next.now.outline.widths ≡ width_count next.now.differences.schema.now.shape }
     requires narrow { (part : ℕ) → slice_index next.now.outline.widths part ≤ 64 }
-    requires before { AreOfKind schema.now.shape rows.now.rows }
-    requires kinds { AreOfKind schema.now.shape (rows_with rows.now.rows next.now.differences) }
+    requires before { AreOfKind next.now.differences.schema.now.shape rows.now.rows }
+    requires kinds { AreOfKind next.now.differences.schema.now.shape (rows_with rows.now.rows next.now.differences) }
     requires apart { AreApart next.now.differences }
     requires bound { next.now.outline.bound ≡ bound_of (keys (rows_with rows.now.rows next.now.differences)) }
-    requires held { HoldsRows schema.now.shape rows.now.widths [] (values rows.now.rows) }
-    ensures tells { MatchResult result (λ _. IsHeld schema.now.shape next.now.own (layout_at next.now.outline) (rows_with rows.now.rows next.now.differences)) (FailsHeld schema.now.shape next.now.own (layout_at next.now.outline) (rows_with rows.now.rows next.now.differences)) }
+    requires held { HoldsRows next.now.differences.schema.now.shape rows.now.widths [] (values rows.now.rows) }
+    ensures tells { MatchResult result (λ _. IsHeld next.now.differences.schema.now.shape next.now.own (layout_at next.now.outline) (rows_with rows.now.rows next.now.differences)) (FailsHeld next.now.differences.schema.now.shape next.now.own (layout_at next.now.outline) (rows_with rows.now.rows next.now.differences)) }
     ensures totals { IfOk result (AreTotals (values (rows_with rows.now.rows next.now.differences))) }
-    ensures long { IfOk result (λ sums. length sums.ends.offsets.items ≡ length (shape_fields schema.now.shape)) }
+    ensures long { IfOk result (λ sums. length sums.ends.offsets.items ≡ length (shape_fields next.now.differences.schema.now.shape)) }
 {
-    match totals_by_change(alloc, schema, next, rows)? {
+    match totals_by_change(alloc, next, rows)? {
         Some(sums) => Ok(sums),
-        None => test_all(alloc, schema, next, rows),
+        None => test_all(alloc, next, rows),
     }
 }

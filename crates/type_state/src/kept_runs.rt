@@ -1,21 +1,23 @@
 //! Records of OBJECT types that are copied run by run, with the bytes of their STRING and BYTES, and written one by one where the rows differ.
 //!
 //! A run is copied at once where the widths of both halves are the same, and record by record where they are not.
-ghost use Rattle.std.specs.Prelude.{◌≡◌, [], IfOk, IsTrue, OnOk, length, replicate};
+ghost use Rattle.std.specs.Prelude.{◌≡◌, ◌^◌, ◌<◌, [], IfOk, IsTrue, OnOk, length, replicate, sum};
 ghost use Rattle.object_codec.specs.ObjectPlace.{IsObject};
-ghost use Rattle.object_codec.specs.Packing.{IsPacked as ArePacked};
+ghost use Rattle.object_codec.specs.Packing.{HasRoom, IsPacked as ArePacked, IsRowPut};
 ghost use Rattle.packed_half.specs.Half.{place_words, words_for};
 ghost use Rattle.packed_half.specs.LaidOut.{IsLaidOut};
 ghost use Rattle.packed_half.specs.Laying.{CanLay, places_in};
 ghost use Rattle.schema_model.specs.Parts.{shape_fields};
 ghost use Rattle.type_rows.specs.Layout.{places_of};
-ghost use Rattle.type_state.specs.Differences.{AreApart, rows_with};
+ghost use Rattle.type_state.specs.Differences.{AreApart, coming_at, rows_with};
 ghost use Rattle.type_state.specs.KeptRecords.{AreKept, kept_rows};
+ghost use Rattle.type_state.specs.Moved.{IsOfPatch};
 ghost use Rattle.type_state.specs.Recorded.{CanCopyRuns};
 
 use crate::copied_rows::are_same;
+use crate::differences::Differences;
 use crate::kept_records::KeptRecords;
-use crate::left_differences::{behind, first_ordinal, row_at};
+use crate::left_differences::{behind, first_ordinal};
 use crate::moving::Move;
 use bit_array::total_width;
 use hol_varint::Octets;
@@ -47,21 +49,44 @@ pub(crate) fn empty_areas(alloc: Global, lengths: &[u64]) -> Result<Vec<Octets>,
     Ok(areas)
 }
 
+/// Writes what the patch brings to a place: the record that it adds there, and else none.
+fn put_place(
+    alloc: Global,
+    schema: &Schema,
+    differences: &Differences<'_, '_>,
+    here: RecordPlace<'_>,
+    first: &mut [u64],
+    areas: &mut [Octets],
+) -> Result<(), AllocError>
+    requires of { differences.now.schema.now.shape ≡ schema.now.shape }
+    requires apart { AreApart differences.now }
+    requires low { here.place < 2 ^ 32 }
+    requires size { here.size ≡ sum here.widths.now }
+    requires room { HasRoom schema.now.shape here.widths.now first.old areas.old here.place (coming_at differences.now here.place) }
+    ensures { OnOk result (IsRowPut schema.now.shape here.entry.widths.now first.old areas.old first.new areas.new here.entry.place (coming_at differences.now here.entry.place)) }
+{
+    match differences.place_of(here.place as u32) {
+        Some(there) => differences.copy_record(alloc, there, here, first, areas),
+        None => put_row(alloc, schema, here.widths, first, areas, here.place, None),
+    }
+}
+
 /// Writes the records of the rows of a move at their places, in words of zeros, and the bytes of each field behind one another.
 ///
-/// The records between two differences are copied, at once where the widths are the same, and those that differ are written from their rows. A place
+/// The records between two differences are copied, at once where the widths are the same, and those that come from the patch. A place
 /// behind those of the half before has a row only where one comes.
 fn put_places(
     alloc: Global,
     schema: &Schema,
     kept: KeptRecords<'_>,
-    next: &Move,
+    next: &Move<'_, '_>,
     first: &mut [u64],
     areas: &mut [Octets],
 ) -> Result<(), AllocError>
     requires kept { AreKept kept }
     requires shape { kept.shape.now ≡ schema.now.shape }
     requires copies { CanCopyRuns schema.now.shape kept.half.now }
+    requires of { IsOfPatch schema.now.shape next.now }
     requires apart { AreApart next.now.differences }
     requires can { CanLay schema.now.shape next.now.half (rows_with (kept_rows kept) next.now.differences) }
     requires zeros { first.old ≡ replicate (place_words schema.now.shape next.now.half) 0 }
@@ -75,8 +100,8 @@ fn put_places(
     let size_there = total_width(widths_there) as u64;
     let places = place_count(next.half.max);
     let stable = place_count(kept.half.max).min(places);
-    let mut removed = next.differences.removed.as_slice();
-    let mut added = next.differences.added.as_slice();
+    let mut removed = next.differences.patch.removed.as_slice();
+    let mut added = next.differences.patch.added.as_slice();
     let mut place = 0;
     while place < places {
         let gone = first_ordinal(removed);
@@ -98,8 +123,12 @@ fn put_places(
             place += 1;
             continue;
         }
-        let row = row_at(removed, added, place);
-        put_row(alloc, schema, widths, first, areas, place, row)?;
+        let here = RecordPlace {
+            widths,
+            size,
+            place,
+        };
+        put_place(alloc, schema, &next.differences, here, first, areas)?;
         removed = behind(removed, place);
         added = behind(added, place);
         place += 1;
@@ -112,12 +141,13 @@ pub(crate) fn lay_by_runs(
     alloc: Global,
     schema: &Schema,
     kept: KeptRecords<'_>,
-    next: &Move,
+    next: &Move<'_, '_>,
     words: &mut [u64],
 ) -> Result<(), AllocError>
     requires kept { AreKept kept }
     requires shape { kept.shape.now ≡ schema.now.shape }
     requires copies { CanCopyRuns schema.now.shape kept.half.now }
+    requires of { IsOfPatch schema.now.shape next.now }
     requires apart { AreApart next.now.differences }
     requires can { CanLay schema.now.shape next.now.half (rows_with (kept_rows kept) next.now.differences) }
     requires zeros { words.old ≡ replicate (words_for schema.now.shape next.now.half) 0 }

@@ -1,29 +1,30 @@
 //! The live ordinals of the rows that a patch moves others to.
-ghost use Rattle.std.specs.Prelude.{◌≡◌, ◌-◌, ◌^◌, IfOk, OnOk};
-ghost use Rattle.type_state.specs.Differences.{AreBelow};
+ghost use Rattle.std.specs.Prelude.{◌≡◌, ◌-◌, ◌^◌, ◌<◌, All, IfOk, OnOk};
+ghost use Rattle.type_state.specs.Differences.{AreApart};
 ghost use Rattle.type_state.specs.Live.{live_with as live_ordinals, with_all, without_all};
 
-use crate::differences::{Difference, Differences};
+use crate::differences::Differences;
 use hol_varint::Duplicate;
 use ordinal_set::OrdinalSet;
 use std::alloc::{AllocError, Global};
 
-/// Takes the ordinals of differences out.
-fn take_out(set: &mut OrdinalSet, differences: &[Difference])
-    ensures { set.new ≡ without_all set.old differences.now }
+/// Takes ordinals out.
+fn take_out(set: &mut OrdinalSet, removed: &[u64])
+    requires { All (λ ordinal. ordinal < 2 ^ 32) removed.now }
+    ensures { set.new ≡ without_all set.old removed.now }
 {
-    for difference in differences {
-        set.remove(difference.0);
+    for ordinal in removed {
+        set.remove(*ordinal as u32);
     }
 }
 
-/// Puts the ordinals of differences in.
-fn put_in(set: &mut OrdinalSet, differences: &[Difference]) -> Result<(), AllocError>
-    requires { AreBelow (2 ^ 32 - 1) differences.now }
-    ensures { OnOk result (set.new ≡ with_all set.old differences.now) }
+/// Puts ordinals in.
+fn put_in(set: &mut OrdinalSet, added: &[u64]) -> Result<(), AllocError>
+    requires { All (λ ordinal. ordinal < 2 ^ 32 - 1) added.now }
+    ensures { OnOk result (set.new ≡ with_all set.old added.now) }
 {
-    for difference in differences {
-        set.insert(difference.0)?;
+    for ordinal in added {
+        set.insert(*ordinal as u32)?;
     }
     Ok(())
 }
@@ -32,13 +33,13 @@ fn put_in(set: &mut OrdinalSet, differences: &[Difference]) -> Result<(), AllocE
 pub(crate) fn live_with(
     alloc: Global,
     live: &OrdinalSet,
-    differences: &Differences,
+    differences: &Differences<'_, '_>,
 ) -> Result<OrdinalSet, AllocError>
-    requires { AreBelow (2 ^ 32 - 1) differences.now.added.items }
+    requires { AreApart differences.now }
     ensures { IfOk result (λ set. set ≡ live_ordinals live.now differences.now) }
 {
     let mut set = live.copy(alloc)?;
-    take_out(&mut set, differences.removed.as_slice());
-    put_in(&mut set, differences.added.as_slice())?;
+    take_out(&mut set, differences.patch.removed.as_slice());
+    put_in(&mut set, differences.patch.added.as_slice())?;
     Ok(set)
 }

@@ -1,4 +1,4 @@
-//! The rows that a patch moves others to: each made as it is asked for, and its record, list, set or map copied as it stands where the patch keeps it.
+//! The rows that a patch moves others to: each made as it is asked for, and its record or list copied from where it stands, a set or map that stays too.
 ghost use Rattle.std.specs.Prelude.{◌≡◌};
 ghost use Rattle.type_state.specs.Differences.{AreApart, rows_with};
 ghost use Rattle.type_state.specs.KeptRecords.{AreKept, kept_rows};
@@ -6,9 +6,10 @@ ghost use Rattle.type_state.specs.KeptRecords.{AreKept, kept_rows};
 use crate::differences::Differences;
 use crate::kept_records::KeptRecords;
 use crate::packed_rows::PackedRows;
+use bit_array::total_width;
 use hol_varint::Octets;
-use object_codec::put_row;
-use packed_half::{NewRows, elements_in, put_elements, put_run};
+use packed_half::{NewRows, put_run};
+use record_copies::RecordPlace;
 use row_model::{Row, Widths};
 use schema_model::Schema;
 use std::alloc::{AllocError, Global};
@@ -19,7 +20,7 @@ use std::marker::Model;
 pub(crate) struct MovedRows<'a> {
     rows: &'a PackedRows<'a>,
     records: KeptRecords<'a>,
-    differences: &'a Differences,
+    differences: Differences<'a, 'a>,
 }
 
 impl<'a> Model for MovedRows<'a> {
@@ -31,9 +32,9 @@ impl<'a> Model for MovedRows<'a> {
 
     ghost coded = { typed_code };
 
-    ghost view = { λ m. record { shape = m.records.shape.now; rows = rows_with m.rows.now.rows m.differences.now } };
+    ghost view = { λ m. record { shape = m.records.shape.now; rows = rows_with m.rows.now.rows m.differences } };
 
-    ghost invariant = { λ m. AreApart m.differences.now × AreKept m.records × (kept_rows m.records ≡ m.rows.now.rows) };
+    ghost invariant = { λ m. AreApart m.differences × (m.differences.schema.now.shape ≡ m.records.shape.now) × AreKept m.records × (kept_rows m.records ≡ m.rows.now.rows) };
 }
 
 impl<'a> MovedRows<'a> {
@@ -41,13 +42,14 @@ impl<'a> MovedRows<'a> {
     pub(crate) fn new(
         rows: &'a PackedRows<'a>,
         records: KeptRecords<'a>,
-        differences: &'a Differences,
+        differences: Differences<'a, 'a>,
     ) -> MovedRows<'a>
-        requires apart { AreApart differences.now }
+        requires apart { AreApart differences }
+        requires of { differences.schema.now.shape ≡ records.shape.now }
         requires kept { AreKept records }
         requires same { kept_rows records ≡ rows.now.rows }
         ensures shape { result.shape ≡ records.entry.shape.now }
-        ensures rows { result.rows ≡ rows_with rows.now.rows differences.now }
+        ensures rows { result.rows ≡ rows_with rows.now.rows differences.entry }
     {
         MovedRows {
             rows,
@@ -79,8 +81,17 @@ impl NewRows for MovedRows<'_> {
         ordinal: u32,
     ) -> Result<(), AllocError> {
         let place = u64::from(ordinal);
-        match self.differences.at(ordinal) {
-            Some(row) => put_row(alloc, schema, widths, first, areas, place, row.as_ref()),
+        match self.differences.place_of(ordinal) {
+            Some(there) => {
+                let size = total_width(widths) as u64;
+                let here = RecordPlace {
+                    widths,
+                    size,
+                    place,
+                };
+                self.differences
+                    .copy_record(alloc, there, here, first, areas)
+            }
             None => self
                 .records
                 .copy_record(alloc, schema, widths, first, areas, ordinal),
@@ -97,8 +108,10 @@ impl NewRows for MovedRows<'_> {
         start: u64,
     ) -> Result<u64, AllocError> {
         let place = u64::from(ordinal);
-        Ok(match self.differences.at(ordinal) {
-            Some(row) => put_elements(widths, first, second, place, start, elements_in(row)),
+        Ok(match self.differences.place_of(ordinal) {
+            Some(there) => self
+                .differences
+                .copy_list(widths, first, second, there, place, start),
             None => self
                 .records
                 .copy_list(widths, first, second, ordinal, start),
@@ -107,7 +120,7 @@ impl NewRows for MovedRows<'_> {
 
     fn put_run(
         &self,
-        _alloc: Global,
+        alloc: Global,
         widths: &[u32],
         first: &mut [u64],
         second: &mut [u64],
@@ -115,8 +128,11 @@ impl NewRows for MovedRows<'_> {
         start: u64,
     ) -> Result<u64, AllocError> {
         let place = u64::from(ordinal);
-        Ok(match self.differences.at(ordinal) {
-            Some(row) => put_run(widths, first, second, place, start, row.as_ref()),
+        Ok(match self.differences.place_of(ordinal) {
+            Some(there) => {
+                let row = self.differences.row(alloc, there)?;
+                put_run(widths, first, second, place, start, Some(&row))
+            }
             None => self
                 .records
                 .copy_run(widths, first, second, ordinal, place, start),

@@ -8,10 +8,10 @@ ghost use Rattle.type_rows.specs.Loads.{IsLoadFault};
 ghost use Rattle.type_rows.specs.MoveFault.{FailsMove};
 ghost use Rattle.type_rows.specs.Outline.{layout_at};
 ghost use Rattle.type_rows.specs.Patches.{IsReadablePatch, RefusesMove, patch_layout};
-ghost use Rattle.type_state.specs.Differences.{AreApart, AreBelow, rows_with};
+ghost use Rattle.type_state.specs.Differences.{AreApart, AreBelow, rows_with, added_of};
 ghost use Rattle.type_state.specs.Kept.{IsHalf, half_rows};
 ghost use Rattle.type_state.specs.Live.{live_with as live_ordinals};
-ghost use Rattle.type_state.specs.Moved.{IsMoveOf};
+ghost use Rattle.type_state.specs.Moved.{IsMoveOf, IsOfPatch};
 
 use crate::differences::Differences;
 use crate::field_bytes::bytes_of_fields;
@@ -29,12 +29,12 @@ use std::alloc::{AllocError, Global};
 use type_rows::{Ends, Outline, PatchSection, RowFault, Totals};
 
 /// The half that a patch moves the current one to, before its words are laid out, and in what its rows differ from the current ones.
-#[derive(Debug, Drop)]
-pub(crate) struct Move {
+#[derive(Drop)]
+pub(crate) struct Move<'s, 'p> {
     /// What describes the words of the half.
     pub(crate) half: HalfShape,
     /// The differences from the current rows.
-    pub(crate) differences: Differences,
+    pub(crate) differences: Differences<'s, 'p>,
 }
 
 /// The half at an outline, whose rows end there and have these ordinals.
@@ -74,13 +74,17 @@ fn lengths_of(half: &HalfShape) -> &[u64]
 }
 
 /// The half of a plan, whose rows add up to these totals.
-fn half_of(alloc: Global, rows: &PackedRows<'_>, counted: CountedPlan) -> Result<Move, AllocError>
-    requires { AreBelow (2 ^ 32 - 1) counted.plan.differences.added.items }
-    ensures differences { IfOk result (λ next. next.differences ≡ counted.plan.differences) }
-    ensures layout { IfOk result (λ next. layout_in next.half ≡ layout_at counted.plan.outline) }
-    ensures total { IfOk result (λ next. next.half.total ≡ counted.totals.ends.items) }
-    ensures lengths { IfOk result (λ next. next.half.lengths ≡ counted.totals.ends.offsets.items) }
-    ensures live { IfOk result (λ next. next.half.live ≡ live_ordinals (keys rows.now.rows) counted.plan.differences) }
+fn half_of<'s, 'p>(
+    alloc: Global,
+    rows: &PackedRows<'_>,
+    counted: CountedPlan<'s, 'p>,
+) -> Result<Move<'s, 'p>, AllocError>
+    requires { AreApart counted.plan.differences }
+    ensures differences { IfOk result (λ next. next.differences ≡ counted.entry.plan.differences) }
+    ensures layout { IfOk result (λ next. layout_in next.half ≡ layout_at counted.entry.plan.outline) }
+    ensures total { IfOk result (λ next. next.half.total ≡ counted.entry.totals.ends.items) }
+    ensures lengths { IfOk result (λ next. next.half.lengths ≡ counted.entry.totals.ends.offsets.items) }
+    ensures live { IfOk result (λ next. next.half.live ≡ live_ordinals (keys rows.now.rows) counted.entry.plan.differences) }
 {
     let live = live_with(alloc, rows.live(), &counted.plan.differences)?;
     let CountedPlan { plan, totals } = counted;
@@ -97,12 +101,12 @@ fn half_of(alloc: Global, rows: &PackedRows<'_>, counted: CountedPlan) -> Result
 /// The half that a patch moves the current one to, at the patch's layout, which holds its rows within the limits.
 ///
 /// Each fault but out of memory is the first of the patch, as `TypeState::move_next` tells of it.
-pub(crate) fn moved(
+pub(crate) fn moved<'s, 'p>(
     alloc: Global,
-    schema: &Schema,
+    schema: &'s Schema,
     current: HalfRows<'_>,
-    patch: &PatchSection,
-) -> Result<Move, RowFault>
+    patch: &'p PatchSection,
+) -> Result<Move<'s, 'p>, RowFault>
     requires readable { IsReadablePatch schema.now.shape patch.now }
     requires shape { current.shape.now ≡ schema.now.shape }
     requires kept { IsHalf schema.now.shape current.half.now current.words.now }
@@ -119,16 +123,18 @@ pub(crate) fn moved(
 /// Lays the rows that a patch moves others to out in the words of their half. The words are zeros, as many as the half takes; where memory is
 /// refused they may hold anything.
 ///
-/// Records and lists that stay are copied, and no row is made of one: the records run by run. Rows of the other kinds are made anew.
+/// Records and lists are copied, from where they stay or from the patch, and no row is made of one: the records run by run. Rows of the
+/// other kinds are made anew.
 pub(crate) fn lay_moved<'a>(
     alloc: Global,
     schema: &'a Schema,
     current: HalfRows<'a>,
-    next: &'a Move,
+    next: &Move<'a, 'a>,
     words: &mut [u64],
 ) -> Result<(), AllocError>
     requires shape { current.shape.now ≡ schema.now.shape }
     requires kept { IsHalf schema.now.shape current.half.now current.words.now }
+    requires of { IsOfPatch schema.now.shape next.now }
     requires apart { AreApart next.now.differences }
     requires can { CanLay schema.now.shape next.now.half (rows_with (half_rows schema.now.shape current.half.now current.words.now) next.now.differences) }
     requires zeros { words.old ≡ replicate (words_for schema.now.shape next.now.half) 0 }
@@ -140,6 +146,6 @@ pub(crate) fn lay_moved<'a>(
         return lay_by_runs(alloc, schema, records, next, words);
     }
     let rows = PackedRows::new(schema, current.half, current.words);
-    let moved = MovedRows::new(&rows, records, &next.differences);
+    let moved = MovedRows::new(&rows, records, next.differences);
     lay_out(alloc, schema, &next.half, &moved, words)
 }

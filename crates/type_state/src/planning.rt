@@ -9,76 +9,62 @@ ghost use Rattle.type_rows.specs.Ends.{AreOfKind};
 ghost use Rattle.type_rows.specs.Outline.{layout_at};
 ghost use Rattle.type_rows.specs.Totals.{AreTotals};
 ghost use Rattle.type_rows.specs.MoveFault.{FailsMove};
-ghost use Rattle.type_state.specs.Differences.{AreApart, AreBelow, removal, rows_with};
+ghost use Rattle.type_state.specs.Differences.{AreApart, AreBelow, removal, rows_with, added_of, removed_of};
 ghost use Rattle.type_state.specs.Moving.{IsDifferent, IsMoved};
 
-use crate::added::read_added;
-use crate::differences::{Difference, Differences};
+use crate::added::test_added;
+use crate::differences::Differences;
 use crate::held::test_held;
 use crate::packed_rows::PackedRows;
 use column_rows::TypeRows;
 use hol_varint::Duplicate;
 use schema_model::{Reason, Schema};
-use std::alloc::{AllocError, Global};
+use std::alloc::Global;
 use type_rows::{Outline, PatchSection, RowFault, Totals, first_bad_ordinal};
 
 /// The rows that a patch moves others to, as differences from these, and their layout.
-#[derive(Debug, Drop)]
-pub(crate) struct Plan {
+#[derive(Drop)]
+pub(crate) struct Plan<'s, 'p> {
     pub(crate) outline: Outline,
     /// How many bits of the record of an OBJECT the limit on words counts.
     pub(crate) own: u32,
-    pub(crate) differences: Differences,
+    pub(crate) differences: Differences<'s, 'p>,
 }
 
 /// A plan whose layout holds the new rows, and what these add up to.
-#[derive(Debug, Drop)]
-pub(crate) struct CountedPlan {
-    pub(crate) plan: Plan,
+#[derive(Drop)]
+pub(crate) struct CountedPlan<'s, 'p> {
+    pub(crate) plan: Plan<'s, 'p>,
     pub(crate) totals: Totals,
 }
 
-/// Under each of some ordinals no row.
-fn removals(alloc: Global, ordinals: &[u64]) -> Result<Vec<Difference>, AllocError>
-    requires { All (λ ordinal. ordinal < 2 ^ 32) ordinals.now }
-    ensures { IfOk result (λ differences. differences.items ≡ map removal ordinals.now) }
-{
-    let mut differences = Vec::with_capacity(alloc, ordinals.len())?;
-    for ordinal in ordinals {
-        differences.push((*ordinal as u32, None))?;
-    }
-    Ok(differences)
-}
-
 /// A number above each ordinal that has a row with the differences, by one above those that had one before.
-fn first_bound(bound: u32, differences: &Differences) -> u32
+fn first_bound(bound: u32, differences: &Differences<'_, '_>) -> u32
     requires apart { AreApart differences.now }
-    requires small { AreBelow (2 ^ 32 - 1) differences.now.added.items }
     ensures before { bound ≤ result }
-    ensures added { AreBelow result differences.now.added.items }
+    ensures added { AreBelow result (added_of differences.now) }
 {
-    match differences.added.as_slice().last() {
-        Some(last) => bound.max(last.0 + 1),
+    match differences.patch.added.as_slice().last() {
+        Some(last) => bound.max(*last as u32 + 1),
         None => bound,
     }
 }
 
-/// The place before, where a difference stands at a place that is of a greater ordinal, or none does.
-fn place_back(differences: &[Difference], place: usize, ordinal: u32) -> usize {
-    match differences.get(place) {
-        Some(difference) if difference.0 <= ordinal => place,
+/// The place before, where a greater ordinal stands at a place, or none does.
+fn place_back(removed: &[u64], place: usize, ordinal: u32) -> usize {
+    match removed.get(place) {
+        Some(removed) if *removed <= u64::from(ordinal) => place,
         _ => place.saturating_sub(1),
     }
 }
 
 /// One past the greatest ordinal that has a row with the differences. Those that are removed are gone through beside the ordinals, from the last one.
-fn bound_with(rows: &PackedRows<'_>, differences: &Differences) -> u32
+fn bound_with(rows: &PackedRows<'_>, differences: &Differences<'_, '_>) -> u32
     requires apart { AreApart differences.now }
-    requires small { AreBelow (2 ^ 32 - 1) differences.now.added.items }
-    requires removed { AreBelow (bound_of (keys rows.now.rows)) differences.now.removed.items }
+    requires removed { AreBelow (bound_of (keys rows.now.rows)) (removed_of differences.now) }
     ensures { result ≡ bound_of (keys (rows_with rows.now.rows differences.now)) }
 {
-    let removed = differences.removed.as_slice();
+    let removed = differences.patch.removed.as_slice();
     let mut above = first_bound(rows.bound(), differences);
     let mut place = removed.len();
     while above > 0 {
@@ -93,12 +79,12 @@ fn bound_with(rows: &PackedRows<'_>, differences: &Differences) -> u32
 
 /// The differences of the rows that a patch moves others to, or its first fault: its ordinals are tried, then the places of the added ones.
 /// The removed ordinals are live, and so below the bound.
-fn differences_of(
+fn differences_of<'s, 'p>(
     alloc: Global,
-    schema: &Schema,
+    schema: &'s Schema,
     rows: &PackedRows<'_>,
-    patch: &PatchSection,
-) -> Result<Differences, RowFault>
+    patch: &'p PatchSection,
+) -> Result<Differences<'s, 'p>, RowFault>
     requires { IsReadablePatch schema.now.shape patch.now }
     ensures { MatchResult result (IsDifferent schema.now.shape patch.now rows.now.rows) (FailsMove schema.now.shape patch.now rows.now.rows) }
 {
@@ -106,19 +92,17 @@ fn differences_of(
     if let Some(ordinal) = first_bad_ordinal(rows.live(), patch) {
         return Err(RowFault::At(Reason::BadOrdinals, ordinal));
     }
-    Ok(Differences {
-        removed: removals(alloc, patch.removed.as_slice())?,
-        added: read_added(alloc, schema, patch)?,
-    })
+    test_added(alloc, schema, patch)?;
+    Ok(Differences { schema, patch })
 }
 
 /// The rows that a patch moves others to, at its layout, where each has a place, or the first fault of its ordinals and places.
-fn differing(
+fn differing<'s, 'p>(
     alloc: Global,
-    schema: &Schema,
+    schema: &'s Schema,
     rows: &PackedRows<'_>,
-    patch: &PatchSection,
-) -> Result<Plan, RowFault>
+    patch: &'p PatchSection,
+) -> Result<Plan<'s, 'p>, RowFault>
     requires { IsReadablePatch schema.now.shape patch.now }
     ensures tells { MatchResult result (λ next. IsMoved schema.now.shape patch.now rows.now.rows (rows_with rows.now.rows next.differences)) (FailsMove schema.now.shape patch.now rows.now.rows) }
     ensures layout { IfOk result (λ next. layout_at next.outline ≡ patch_layout patch.now) }
@@ -142,12 +126,12 @@ fn differing(
 }
 
 /// The rows that a patch moves others to, at its layout, which holds them within the limits, with what they add up to; or the patch's first fault.
-pub(crate) fn planned(
+pub(crate) fn planned<'s, 'p>(
     alloc: Global,
-    schema: &Schema,
+    schema: &'s Schema,
     rows: &PackedRows<'_>,
-    patch: &PatchSection,
-) -> Result<CountedPlan, RowFault>
+    patch: &'p PatchSection,
+) -> Result<CountedPlan<'s, 'p>, RowFault>
     requires readable { IsReadablePatch schema.now.shape patch.now }
     requires kinds { AreOfKind schema.now.shape rows.now.rows }
     requires held { HoldsRows schema.now.shape rows.now.widths [] (values rows.now.rows) }
@@ -159,6 +143,6 @@ pub(crate) fn planned(
     ensures long { IfOk result (λ counted. length counted.totals.ends.offsets.items ≡ length (shape_fields schema.now.shape)) }
 {
     let plan = differing(alloc, schema, rows, patch)?;
-    let totals = test_held(alloc, schema, &plan, rows)?;
+    let totals = test_held(alloc, &plan, rows)?;
     Ok(CountedPlan { plan, totals })
 }

@@ -143,31 +143,21 @@ impl TypeState {
         ensures schema { self.new.schema ≡ self.old.schema }
         ensures current { self.new.current ≡ self.old.current }
     {
-        let next = self.next_move(patch)?;
+        let schema = &self.schema;
+        let current = HalfRows {
+            shape: &schema.shape,
+            half: &self.now,
+            words: self.twin.current(),
+        };
+        let next = moved(self.alloc, schema, current, patch)?;
         self.other = bare_half(self.alloc);
-        lay_moved_next(self.alloc, &self.schema, &self.now, &next, &mut self.twin)?;
+        lay_moved_next(self.alloc, schema, &self.now, &next, &mut self.twin)?;
         let Move {
             half,
             differences: _,
         } = next;
         self.other = half;
         Ok(())
-    }
-
-    /// What the patch makes of the current rows.
-    fn next_move(&self, patch: &PatchSection) -> Result<Move, RowFault>
-        requires { IsReadablePatch self.now.schema.shape patch.now }
-        ensures tells { MatchResult result (λ next. IsMoveOf self.entry.now.schema.shape patch.now self.entry.now.current.rows next) (RefusesMove self.entry.now.schema.shape patch.now self.entry.now.current.rows) }
-        ensures layout { IfOk result (λ next. layout_in next.half ≡ patch_layout patch.now) }
-        ensures kind { IfErr result IsLoadFault }
-        ensures fault { IfErr result (FailsMove self.entry.now.schema.shape patch.now self.entry.now.current.rows) }
-    {
-        let current = HalfRows {
-            shape: &self.schema.shape,
-            half: &self.now,
-            words: self.twin.current(),
-        };
-        moved(self.alloc, &self.schema, current, patch)
     }
 
     /// Leaves no rows in the next half. It takes no memory.

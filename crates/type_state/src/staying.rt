@@ -1,5 +1,5 @@
 //! Whether the rows that stay fit other widths, told by the fields whose width is narrower, where they stand packed: no row is made.
-ghost use Rattle.std.specs.Prelude.{◌≡◌, ◌<◌, ◌≤◌, ℕ, [], IsTrue, None, Some, length, slice_get, slice_index};
+ghost use Rattle.std.specs.Prelude.{◌≡◌, ◌^◌, ◌<◌, ◌≤◌, ℕ, [], All, IsTrue, None, Some, length, map, slice_get, slice_index};
 ghost use Rattle.std.specs.FinMap.{find, values};
 ghost use Rattle.std.specs.Ordering.{nat_cmp};
 ghost use Rattle.row_model.specs.declared.row.Value.{Value};
@@ -10,9 +10,9 @@ ghost use Rattle.type_rows.specs.Holds.{HoldsRows};
 ghost use Rattle.type_rows.specs.Layout.{width_count};
 ghost use Rattle.column_rows.specs.OneType.{IsColumnIn};
 ghost use Rattle.type_state.specs.Counted.{IsNoNarrower, StayFitting};
+ghost use Rattle.type_state.specs.Differences.{removal};
 ghost use Rattle.type_state.specs.Staying.{FieldStays, FitsBesideNull, FitsUnder};
 
-use crate::differences::Difference;
 use crate::packed_rows::PackedRows;
 use bit_array::{all_ones, element};
 use column_rows::{TypeColumns, TypeRows};
@@ -74,18 +74,20 @@ fn column_fits(
     column: &Column<'_>,
     field: u32,
     width: u32,
-    removed: &[Difference],
+    removed: &[u64],
 ) -> bool
     requires column { IsColumnIn rows.now.rows field column.now }
     requires narrow { width ≤ 64 }
-    ensures { IsTrue result → (ordinal : ℕ) → find nat_cmp ordinal removed.now ≡ None → FitsUnder rows.now.rows field width ordinal }
+    requires small { All (λ ordinal. ordinal < 2 ^ 32) removed.now }
+    ensures { IsTrue result → (ordinal : ℕ) → find nat_cmp ordinal (map removal removed.now) ≡ None → FitsUnder rows.now.rows field width ordinal }
 {
     let mut from = 0;
-    for difference in removed {
-        if !run_fits(rows, column, field, width, from, difference.0) {
+    for ordinal in removed {
+        let ordinal = *ordinal as u32;
+        if !run_fits(rows, column, field, width, from, ordinal) {
             return false;
         }
-        from = difference.0.saturating_add(1);
+        from = ordinal.saturating_add(1);
     }
     run_fits(rows, column, field, width, from, rows.bound())
 }
@@ -97,10 +99,11 @@ fn field_fits(
     field: u32,
     before: u32,
     width: u32,
-    removed: &[Difference],
+    removed: &[u64],
 ) -> bool
-    requires { width ≤ 64 }
-    ensures { IsTrue result → FieldStays rows.now.rows removed.now field kind.now before width }
+    requires narrow { width ≤ 64 }
+    requires small { All (λ ordinal. ordinal < 2 ^ 32) removed.now }
+    ensures { IsTrue result → FieldStays rows.now.rows (map removal removed.now) field kind.now before width }
 {
     match kind {
         FieldKind::Text => true,
@@ -111,9 +114,10 @@ fn field_fits(
 }
 
 /// Whether each number of a field fits a width beside null.
-fn numbers_fit(rows: &PackedRows<'_>, field: u32, width: u32, removed: &[Difference]) -> bool
-    requires { width ≤ 64 }
-    ensures { IsTrue result → (ordinal : ℕ) → find nat_cmp ordinal removed.now ≡ None → FitsUnder rows.now.rows field width ordinal }
+fn numbers_fit(rows: &PackedRows<'_>, field: u32, width: u32, removed: &[u64]) -> bool
+    requires narrow { width ≤ 64 }
+    requires small { All (λ ordinal. ordinal < 2 ^ 32) removed.now }
+    ensures { IsTrue result → (ordinal : ℕ) → find nat_cmp ordinal (map removal removed.now) ≡ None → FitsUnder rows.now.rows field width ordinal }
 {
     match rows.column(field) {
         Some(column) => column_fits(rows, &column, field, width, removed),
@@ -122,15 +126,11 @@ fn numbers_fit(rows: &PackedRows<'_>, field: u32, width: u32, removed: &[Differe
 }
 
 /// Whether each value of each of these fields does.
-fn fields_fit(
-    rows: &PackedRows<'_>,
-    fields: &[Field],
-    widths: &[u32],
-    removed: &[Difference],
-) -> bool
+fn fields_fit(rows: &PackedRows<'_>, fields: &[Field], widths: &[u32], removed: &[u64]) -> bool
     requires widths { length widths.now ≡ length fields.now }
     requires narrow { (part : ℕ) → slice_index widths.now part ≤ 64 }
-    ensures { IsTrue result → (index : ℕ) (field : FieldOf) → slice_get fields.now index ≡ Some field → FieldStays rows.now.rows removed.now index field.kind (slice_index rows.now.widths index) (slice_index widths.now index) }
+    requires small { All (λ ordinal. ordinal < 2 ^ 32) removed.now }
+    ensures { IsTrue result → (index : ℕ) (field : FieldOf) → slice_get fields.now index ≡ Some field → FieldStays rows.now.rows (map removal removed.now) index field.kind (slice_index rows.now.widths index) (slice_index widths.now index) }
 {
     let before = rows.widths();
     if before.len() != fields.len() {
@@ -170,12 +170,13 @@ pub(crate) fn stay_fitting(
     rows: &PackedRows<'_>,
     shape: &Shape,
     widths: &[u32],
-    removed: &[Difference],
+    removed: &[u64],
 ) -> bool
     requires widths { length widths.now ≡ width_count shape.now }
     requires narrow { (part : ℕ) → slice_index widths.now part ≤ 64 }
     requires held { HoldsRows shape.now rows.now.widths [] (values rows.now.rows) }
-    ensures { IsTrue result → StayFitting shape.now widths.now removed.now rows.now.rows }
+    requires small { All (λ ordinal. ordinal < 2 ^ 32) removed.now }
+    ensures { IsTrue result → StayFitting shape.now widths.now (map removal removed.now) rows.now.rows }
 {
     match shape {
         Shape::Object(_, fields) => fields_fit(rows, fields.as_slice(), widths, removed),

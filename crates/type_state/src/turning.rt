@@ -2,6 +2,7 @@
 ghost use Rattle.std.specs.Prelude.{◌≡◌, [], OnErr, OnOk};
 ghost use Rattle.packed_half.specs.LaidOut.{IsLaidOut};
 ghost use Rattle.packed_half.specs.Laying.{CanLay};
+ghost use Rattle.type_state.specs.Moved.{IsOfPatch};
 ghost use Rattle.type_state.specs.Differences.{AreApart, rows_with};
 ghost use Rattle.type_state.specs.Kept.{IsHalf, IsPacked, half_rows};
 ghost use Rattle.type_state.specs.Recorded.{CanCopy};
@@ -25,10 +26,11 @@ pub(crate) fn lay_moved_next(
     alloc: Global,
     schema: &Schema,
     current: &HalfShape,
-    next: &Move,
+    next: &Move<'_, '_>,
     twin: &mut TwinWords,
 ) -> Result<(), AllocError>
     requires kept { IsHalf schema.now.shape current.now twin.old.current }
+    requires of { IsOfPatch schema.now.shape next.now }
     requires apart { AreApart next.now.differences }
     requires can { CanLay schema.now.shape next.now.half (rows_with (half_rows schema.now.shape current.now twin.old.current) next.now.differences) }
     ensures current { twin.new.current ≡ twin.old.current }
@@ -48,11 +50,12 @@ pub(crate) fn lay_moved_next(
 fn lay_copied_next(
     schema: &Schema,
     current: &HalfShape,
-    next: &Move,
+    next: &Move<'_, '_>,
     twin: &mut TwinWords,
 ) -> Result<(), AllocError>
     requires kept { IsPacked schema.now.shape current.now twin.old.current }
     requires copies { CanCopy schema.now.shape current.now next.now.half }
+    requires of { IsOfPatch schema.now.shape next.now }
     requires apart { AreApart next.now.differences }
     requires can { CanLay schema.now.shape next.now.half (rows_with (half_rows schema.now.shape current.now twin.old.current) next.now.differences) }
     requires none { twin.old.other ≡ [] }
@@ -79,10 +82,11 @@ fn lay_other_next(
     alloc: Global,
     schema: &Schema,
     current: &HalfShape,
-    next: &Move,
+    next: &Move<'_, '_>,
     twin: &mut TwinWords,
 ) -> Result<(), AllocError>
     requires kept { IsHalf schema.now.shape current.now twin.old.current }
+    requires of { IsOfPatch schema.now.shape next.now }
     requires apart { AreApart next.now.differences }
     requires can { CanLay schema.now.shape next.now.half (rows_with (half_rows schema.now.shape current.now twin.old.current) next.now.differences) }
     requires none { twin.old.other ≡ [] }

@@ -1,8 +1,7 @@
 use Rattle.std.proofs.Common.{◌+◌, ℕ, List, ap, arith, map, subst, sym, ◌∙◌}
-use Rattle.std.specs.Prelude.{option_copied, sum}
+use Rattle.std.specs.Prelude.{sum}
 use Rattle.object_codec.specs.Bytes.{bytes_of}
-use Rattle.type_rows.specs.Differing.{Difference}
-use Rattle.type_state.specs.Differences.{rows_with}
+use Rattle.type_state.specs.Differences.{coming_at, rows_with}
 use Rattle.type_state.specs.KeptRecords.{kept_rows}
 use Rattle.type_state.specs.LeftDifferences.{behind}
 use Rattle.type_state.proofs.KeptRuns.{WrittenSoFar, kept_small, record_small, room_for_kept, room_for_row, room_for_run, row_there, run_stands, written_all, written_kept, written_none, written_row, written_run}
@@ -22,7 +21,7 @@ overflow_cast-size_there c =
 pub loop-place-init : goal.loop-place-init
 loop-place-init c =
     written_none c.args.schema.now.shape c.args.next.now.half (kept_rows c.args.kept) c.args.next.now.differences c.as_slice-removed.result.now c.as_slice-added.result.now c.args.first.now c.args.areas.now
-    c.requires.copies.object c.requires.can c.requires.apart c.as_slice-removed.ensures.value c.as_slice-added.ensures.value c.requires.zeros c.requires.none
+    c.requires.copies.object c.requires.can c.requires.apart c.as_slice-removed.ensures c.as_slice-added.ensures c.requires.zeros c.requires.none
 
 pub copy_run-requires : goal.copy_run-requires
 copy_run-requires c =
@@ -68,8 +67,8 @@ loop-place-preserved-then-place-end c =
     c.copy_place.new.first c.loop-place.areas c.copy_place.new.areas c.loop-place.place c.requires.copies.object c.requires.can c.requires.apart c.as_slice-widths.ensures c.loop-place.invariant (omega arith) (omega arith)
     (omega arith) c.in_ok-copy_place.ensures c.copy_place.auto.first
 
-pub put_row-requires : goal.put_row-requires
-put_row-requires c =
+pub put_place-requires-clause-room : goal.put_place-requires-clause-room
+put_place-requires-clause-room c =
     let shape = c.args.schema.now.shape in
     let half = c.args.next.now.half in
     let kept = c.args.kept in
@@ -77,8 +76,8 @@ put_row-requires c =
     let place = c.loop-place.place in
     let there = row_there kept.shape.now kept.half.now half kept.words.now ds c.loop-place.removed.now c.loop-place.added.now c.loop-place.first c.loop-place.areas shape place c.min-end.result c.requires.kept.half c.requires.copies.places
     c.requires.apart c.loop-place.invariant (omega arith) (omega arith) (omega arith) (omega arith) in
-    room_for_row shape half (kept_rows kept) ds c.loop-place.removed.now c.loop-place.added.now c.as_slice-widths.result.now c.loop-place.first c.loop-place.areas place (option_copied c.row_at-row.result) c.requires.copies.object
-    c.requires.can c.as_slice-widths.ensures c.loop-place.invariant (omega arith) (c.row_at-row.ensures ∙ there)
+    room_for_row shape half (kept_rows kept) ds c.loop-place.removed.now c.loop-place.added.now c.as_slice-widths.result.now c.loop-place.first c.loop-place.areas place (coming_at ds place) c.requires.copies.object
+    c.requires.can c.as_slice-widths.ensures c.loop-place.invariant (omega arith) there
 
 pub loop-place-preserved : goal.loop-place-preserved
 loop-place-preserved c =
@@ -89,10 +88,10 @@ loop-place-preserved c =
     let place = c.loop-place.place in
     let there = row_there kept.shape.now kept.half.now half kept.words.now ds c.loop-place.removed.now c.loop-place.added.now c.loop-place.first c.loop-place.areas shape place c.min-end.result c.requires.kept.half c.requires.copies.places
     c.requires.apart c.loop-place.invariant (omega arith) (omega arith) (omega arith) (omega arith) in
-    let more = written_row shape half (kept_rows kept) ds c.loop-place.removed.now c.loop-place.added.now c.as_slice-widths.result.now c.loop-place.first c.put_row.new.first c.loop-place.areas c.put_row.new.areas place (option_copied c.row_at-row.result)
-    c.requires.copies.object c.requires.can c.as_slice-widths.ensures c.loop-place.invariant (omega arith) (c.row_at-row.ensures ∙ there) c.in_ok-put_row.ensures c.put_row.auto.first in
-    subst (λ (left : List Difference). WrittenSoFar shape half (kept_rows kept) ds left c.behind-added.result.now c.put_row.new.first c.put_row.new.areas (place + 1)) (sym c.behind-removed.ensures)
-    (subst (λ (left : List Difference). WrittenSoFar shape half (kept_rows kept) ds (behind place c.loop-place.removed.now) left c.put_row.new.first c.put_row.new.areas (place + 1)) (sym c.behind-added.ensures) more)
+    let more = written_row shape half (kept_rows kept) ds c.loop-place.removed.now c.loop-place.added.now c.as_slice-widths.result.now c.loop-place.first c.put_place.new.first c.loop-place.areas c.put_place.new.areas place (coming_at ds place)
+    c.requires.copies.object c.requires.can c.as_slice-widths.ensures c.loop-place.invariant (omega arith) there c.in_ok-put_place.ensures c.put_place.auto.first in
+    subst (λ (left : List ℕ). WrittenSoFar shape half (kept_rows kept) ds left c.behind-added.result.now c.put_place.new.first c.put_place.new.areas (place + 1)) (sym c.behind-removed.ensures)
+    (subst (λ (left : List ℕ). WrittenSoFar shape half (kept_rows kept) ds (behind place c.loop-place.removed.now) left c.put_place.new.first c.put_place.new.areas (place + 1)) (sym c.behind-added.ensures) more)
 
 pub returns : goal.returns
 returns c =

@@ -1,5 +1,4 @@
-use Rattle.std.proofs.Common.{◌≡◌, List, ℕ, Option, sym, ◌∙◌}
-use Rattle.schema_model.specs.declared.schema.Field.{Field}
+use Rattle.std.proofs.Common.{◌≡◌, sym, ◌∙◌}
 use Rattle.schema_model.specs.declared.schema.Shape.{Shape}
 use Rattle.type_state.proofs.LeavingRows.{lists_stand, runs_stand}
 use Rattle.type_state.proofs.leaving.items_of.Goals.{in-List+in_ok-lists-in-List, in_default+in_ok-runs-in_default}

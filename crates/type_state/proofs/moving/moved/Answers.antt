@@ -1,4 +1,4 @@
-use Rattle.std.proofs.Common.{rules, [], ◌∙◌, sym, subst, arith}
+use Rattle.std.proofs.Common.{rules, [], ◌∙◌, ap, sym, subst}
 use Rattle.std.specs.FinMap.{values}
 use Rattle.row_model.specs.Row.{FitsShape, stored_row}
 use Rattle.std.proofs.Common.{◌≡◌}
@@ -18,7 +18,7 @@ use Rattle.type_state.proofs.Halves.{half_fits, half_held, half_kinds, half_stor
 use Rattle.type_state.proofs.HeldMoves.{is_load_fault, refuses_move}
 use Rattle.type_state.proofs.LiveSets.{keys_moved}
 use Rattle.type_state.proofs.MovedHalf.{can_lay}
-use Rattle.type_state.proofs.Moves.{added_small, are_apart}
+use Rattle.type_state.proofs.Moves.{are_apart}
 use Rattle.type_state.proofs.moving.moved.Goals as goal
 
 pub planned-requires-clause-kinds : goal.planned-requires-clause-kinds
@@ -46,7 +46,7 @@ returns-in_err-counted-clause-fault c =
     search rules
 
 pub half_of-requires : goal.half_of-requires
-half_of-requires c = added_small c.args.schema.now.shape c.args.patch.now c.new-rows.result.rows c.in_ok-counted.counted.plan.differences c.in_ok-counted.ensures.known (omega (arith, c.requires.readable.few))
+half_of-requires c = are_apart c.args.schema.now.shape c.args.patch.now c.new-rows.result.rows c.in_ok-counted.counted.plan.differences c.in_ok-counted.ensures.known
 
 pub returns-clause-tells : goal.returns-clause-tells
 returns-clause-tells c =
@@ -59,10 +59,10 @@ returns-clause-tells c =
     let known = c.in_ok-counted.ensures.known in
     let fits = subst (λ (s : Standing). EachRowOf s.rows (FitsShape shape)) (sym c.new-rows.ensures) (half_fits c.args.schema.now.shape c.args.current.half.now c.args.current.words.now c.requires.kept) in
     let stored = subst (λ (s : Standing). EachRowOf s.rows (λ row. stored_row row ≡ row)) (sym c.new-rows.ensures) (half_stored c.args.schema.now.shape c.args.current.half.now c.args.current.words.now c.requires.kept) in
-    let live = keys_moved rows ds patch.removed known.added.rows known.removed known.added.are ∙ sym c.in_ok-half_of.ensures.live in
+    let live = keys_moved rows ds known.added.rows (known.added.keys ∙ sym (ap (λ p. p.added) known.lent)) known.added.are ∙ sym c.in_ok-half_of.ensures.live in
     let can : CanLay shape half (rows_with rows ds) =
     can_lay shape patch half counted.totals rows (rows_with rows ds) c.requires.readable (c.in_ok-half_of.ensures.layout ∙ c.in_ok-counted.ensures.layout) live c.in_ok-half_of.ensures.total c.in_ok-half_of.ensures.lengths
     c.in_ok-counted.ensures.totals c.in_ok-counted.ensures.long c.in_ok-counted.ensures.tells c.in_ok-counted.ensures.kinds fits stored in
     let next : Move = record { half = half; differences = ds } in
-    let is : IsMoveOf shape patch rows next = record { moved = c.in_ok-counted.ensures.tells; can = can; apart = are_apart shape patch rows ds known } in
+    let is : IsMoveOf shape patch rows next = record { moved = c.in_ok-counted.ensures.tells; can = can; apart = are_apart shape patch rows ds known; of = record { same = known.of; widths = ap (λ l. l.widths) (c.in_ok-half_of.ensures.layout ∙ c.in_ok-counted.ensures.layout) ∙ sym (ap (λ p. p.widths) known.lent) } } in
     subst (λ (xs : Differences). IsMoveOf shape patch (half_rows c.args.schema.now.shape c.args.current.half.now c.args.current.words.now) record { half = half; differences = xs }) (sym c.in_ok-half_of.ensures.differences) (subst (λ (s : Standing). IsMoveOf shape patch s.rows next) c.new-rows.ensures is)

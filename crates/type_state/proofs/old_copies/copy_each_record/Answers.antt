@@ -1,8 +1,7 @@
-use Rattle.std.proofs.Common.{◌∙◌, ap, arith, get_or, refl, subst, sym}
-use Rattle.std.specs.Prelude.{sum}
+use Rattle.std.proofs.Common.{arith, get_or, refl, subst, sym}
 use Rattle.schema_model.specs.declared.schema.Shape.{Shape}
 use Rattle.type_state.specs.OldRecords.{CanCopyEach}
-use Rattle.type_state.proofs.OldCopies.{copied_one, copies_begun, copies_done, copies_small, copy_room}
+use Rattle.type_state.proofs.OldCopies.{copied_one, copies_begun, copies_done, copy_room}
 use Rattle.type_state.proofs.old_copies.copy_each_record.Goals as goal
 
 pub loop-place-init : goal.loop-place-init

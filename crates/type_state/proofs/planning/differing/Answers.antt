@@ -1,13 +1,8 @@
-use Rattle.std.proofs.Common.{arith}
-use Rattle.type_state.proofs.Moves.{added_small, are_apart, are_moved, removed_below}
+use Rattle.type_state.proofs.Moves.{are_apart, are_moved, removed_below}
 use Rattle.type_state.proofs.planning.differing.Goals as goal
 
 pub bound_with-next_bound-requires-clause-apart : goal.bound_with-next_bound-requires-clause-apart
 bound_with-next_bound-requires-clause-apart c = are_apart c.args.schema.now.shape c.args.patch.now c.args.rows.now.rows c.in_ok-differences.differences c.in_ok-differences.ensures
-
-pub bound_with-next_bound-requires-clause-small : goal.bound_with-next_bound-requires-clause-small
-bound_with-next_bound-requires-clause-small c =
-    added_small c.args.schema.now.shape c.args.patch.now c.args.rows.now.rows c.in_ok-differences.differences c.in_ok-differences.ensures (omega (arith, c.requires.few))
 
 pub bound_with-next_bound-requires-clause-removed : goal.bound_with-next_bound-requires-clause-removed
 bound_with-next_bound-requires-clause-removed c = removed_below c.args.schema.now.shape c.args.patch.now c.args.rows.now.rows c.in_ok-differences.differences c.in_ok-differences.ensures

@@ -1,25 +1,22 @@
-use Rattle.std.proofs.Common.{◌≡◌, Some, None, rules, sym, subst}
-use Rattle.std.specs.Prelude.{◌↔◌, IsSome, IsTrue}
-use Rattle.std.specs.Ordering.{nat_cmp}
-use Rattle.std.specs.FinMap.{find, get}
-use Rattle.type_state.specs.Differences.{rows_with}
-use Rattle.type_state.proofs.DifferingRows.{live_by, with_added, with_removed, with_neither}
+use Rattle.std.proofs.Common.{refl, sym, ap, ◌∙◌, subst}
+use Rattle.std.specs.Prelude.{◌↔◌, IsSome, IsTrue, is_some, not}
+use Rattle.std.proofs.lemmas.Bool.{false≢true}
+use Rattle.type_state.proofs.Comings.{live_added, none_added}
+use Rattle.type_state.proofs.DifferingRows.{with_neither, with_removed}
 use Rattle.type_state.proofs.differences.Differences.is_live.Goals as goal
 
-pub returns-in-Some : goal.returns-in-Some
-returns-in-Some c =
-    let at : find nat_cmp c.args.ordinal c.args.self.now.added.items ≡ Some c.in-Some.row.now = search rules in
-    live_by (get (rows_with c.args.rows.now.rows c.args.self.now) c.args.ordinal) c.in-Some.row.now c.is_some.result (with_added c.args.rows.now.rows c.args.self.now c.args.ordinal c.in-Some.row.now c.requires at) c.is_some.ensures
+pub returns-then-is_some : goal.returns-then-is_some
+returns-then-is_some c = (λ t. live_added c.args.rows.now.rows c.args.self.now c.args.ordinal c.place_of.result c.requires c.place_of.ensures (sym c.is_some.ensures ∙ c.if-is_some.true), λ some. refl)
 
-pub returns-in-Some-among : goal.returns-in-Some-among
-returns-in-Some-among c =
-    let none : find nat_cmp c.args.ordinal c.args.self.now.added.items ≡ None = search rules in
-    let at : find nat_cmp c.args.ordinal c.args.self.now.removed.items ≡ Some c.in-Some-among.row.now = search rules in
-    live_by (get (rows_with c.args.rows.now.rows c.args.self.now) c.args.ordinal) c.in-Some-among.row.now c.is_some-in-Some-among.result (with_removed c.args.rows.now.rows c.args.self.now c.args.ordinal c.in-Some-among.row.now c.requires none at)
-    c.is_some-in-Some-among.ensures
-
-pub returns-in-None : goal.returns-in-None
-returns-in-None c =
-    let none : find nat_cmp c.args.ordinal c.args.self.now.added.items ≡ None = search rules in
-    let gone : find nat_cmp c.args.ordinal c.args.self.now.removed.items ≡ None = search rules in
+pub returns-then-not-is_removed : goal.returns-then-not-is_removed
+returns-then-not-is_removed c =
+    let none = none_added c.args.self.now c.args.ordinal c.place_of.result c.place_of.ensures (sym c.is_some.ensures ∙ c.if-is_some.false) in
+    let gone = c.is_removed.ensures.stays c.if-not-is_removed.true in
     subst (λ there. IsTrue c.is_live.result ↔ IsSome there) (sym (with_neither c.args.rows.now.rows c.args.self.now c.args.ordinal c.requires none gone)) c.is_live.ensures
+
+pub returns-else-not-is_removed : goal.returns-else-not-is_removed
+returns-else-not-is_removed c =
+    let none = none_added c.args.self.now c.args.ordinal c.place_of.result c.place_of.ensures (sym c.is_some.ensures ∙ c.if-is_some.false) in
+    let gone = c.is_removed.ensures.gone c.if-not-is_removed.false in
+    let empty = with_removed c.args.rows.now.rows c.args.self.now c.args.ordinal _ c.requires none gone in
+    (λ t. absurd (false≢true (sym (ap not c.if-not-is_removed.false) ∙ t)), λ some. absurd (false≢true (sym (ap is_some empty) ∙ some)))
