@@ -12,13 +12,12 @@ use Rattle.row_model.specs.declared.row.Row.{Row}
 use Rattle.row_model.specs.Table.{RowMap}
 use Rattle.type_rows.specs.declared.totals.Totals.{Totals}
 use Rattle.type_rows.specs.Differing.{Difference, differ_at}
-use Rattle.type_rows.specs.Ends.{FitsBehind}
 use Rattle.type_rows.specs.Layout.{items_of_row}
 use Rattle.type_rows.specs.WordsHeld.{part_bytes}
 use Rattle.type_rows.specs.Totals.{AreLess, AreMore, AreTotals}
 use Rattle.type_rows.proofs.Rising.{from_sorted}
 use Rattle.type_state.specs.Differences.{differing}
-use Rattle.type_state.specs.Counted.{AgreeAt, AreFitting, AreNothing, FitsSomewhere, IsCounted}
+use Rattle.type_state.specs.Counted.{AgreeAt, AreFitting, AreNothing, Comes, FitsSomewhere, IsCounted}
 use Rattle.type_state.proofs.Lookups.{found, found_at, keys_rise, skipped}
 use Rattle.type_state.proofs.RowSums.{differing_more, get_apart, totals_differ}
 
@@ -37,6 +36,11 @@ nothing_less totals stood nothing = record {
   bytes = omega (arith, nothing.2);
   long = refl;
 }
+
+-- Where no row stands nothing is taken off.
+none_less : (totals : Totals) (stood : Option Row) → stood ≡ None → AreLess totals stood totals
+none_less totals None none = record { ends = λ field. omega arith; items = omega arith; bytes = omega arith; long = refl }
+none_less totals (Some row) none = absurd cc
 
 -- Nothing is added to totals.
 pub nothing_more : (totals : Totals) → AreMore totals None totals
@@ -84,6 +88,11 @@ counted_more rows ds initial now middle after index d c sorted inside is less mo
   long = more.long ∙ less.long ∙ c.long;
 }
 
+-- One more is counted that comes under an ordinal of no row.
+pub come_more : (rows : RowMap) (ds : List Difference) (initial now after : Totals) (index : ℕ) (d : Difference) → Counting rows ds initial now index → IsStrictlySortedBy nat_cmp (keys_of ds) → index < length ds → d ≡ get_or ds index d → get rows d.0 ≡ None
+    → AreMore now d.1 after → Counting rows ds initial after (index + 1)
+come_more rows ds initial now after index d c sorted inside is none more = counted_more rows ds initial now now after index d c sorted inside is (none_less now (get rows d.0) none) more
+
 -- What comes by one more fits too.
 pub fits_more : (shape : Shape) (widths : List ℕ) (ds : List Difference) (index : ℕ) (d : Difference) → Fitting shape widths ds index → index < length ds → d ≡ get_or ds index d → ((row : Row) → d.1 ≡ Some row → FitsSomewhere shape widths row)
     → Fitting shape widths ds (index + 1)
@@ -119,8 +128,8 @@ pub all_fit : (shape : Shape) (widths : List ℕ) (ds : List Difference) (index 
 all_fit shape widths ds index fit past o row at =
     let there = place_of ds o (Some row) at in fit there.place row (omega (arith, there.inside)) there.is
 
--- A row that fits behind others fits.
-pub fits_so : (shape : Shape) (widths : List ℕ) (before : Totals) (made row : Row) → Some made ≡ Some row → FitsBehind shape widths before.ends.offsets.items before.ends.items made → FitsSomewhere shape widths row
-fits_so shape widths before made row same fits =
+-- A row that comes behind others fits.
+pub fits_so : (shape : Shape) (widths : List ℕ) (before after : Totals) (made row : Row) → Some made ≡ Some row → Comes shape widths made before after → FitsSomewhere shape widths row
+fits_so shape widths before after made row same comes =
     let is : made ≡ row = cc in
-    subst (FitsSomewhere shape widths) is record { ends = λ f. slice_index before.ends.offsets.items f + part_bytes f made; items = before.ends.items + items_of_row made; fits = fits }
+    subst (FitsSomewhere shape widths) is record { ends = λ f. slice_index before.ends.offsets.items f + part_bytes f made; items = before.ends.items + items_of_row made; fits = comes.fits }

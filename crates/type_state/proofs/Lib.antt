@@ -2,6 +2,7 @@ pub mod AddedRows
 pub mod AddedUp
 pub mod Bounds
 pub mod Changes
+pub mod ComingRows
 pub mod Comings
 pub mod CopiedRows
 pub mod CountedRows

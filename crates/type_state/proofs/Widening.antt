@@ -1,4 +1,4 @@
--- Which rows fit where another fits, and at widths that are no narrower than those that they fit.
+-- Which rows fit where all end, and at widths that are no narrower than those that they fit.
 use Rattle.std.proofs.Common.{◌≡◌, ℕ, zero, suc, ◌^◌, ◌<◌, ◌≤◌, inl, inr, List, [], ◌∷◌, ◌++◌, length, get_or, Some, refl, sym, subst, ◌∙◌, append_assoc, arith}
 use Rattle.std.specs.Prelude.{slice_index, sum_by}
 use Rattle.std.specs.Ordering.{nat_cmp}
@@ -7,17 +7,17 @@ use Rattle.std.specs.Map.{values_of}
 use Rattle.std.proofs.Math.Pow.{pow_mono}
 use Rattle.std.proofs.lemmas.Bool.{cases_eq, cases_lt}
 use Rattle.std.proofs.lemmas.List.Sums.{sum_by-append, sum_by-cons, sum_by_push}
-use Rattle.std.proofs.lemmas.Option.{slice_get-get_or, slice_get_within}
+use Rattle.std.proofs.lemmas.Option.{slice_get_within}
 use Rattle.schema_model.specs.declared.schema.FieldKind.{FieldKind}
 use Rattle.schema_model.specs.declared.schema.Shape.{Shape}
 use Rattle.row_model.specs.declared.row.Value.{Value}
 use Rattle.row_model.specs.declared.row.Row.{Row}
 use Rattle.object_codec.specs.ObjectPlace.{IsObject}
-use Rattle.type_rows.specs.Ends.{IsOfKind}
+use Rattle.type_rows.specs.FieldEnds.{EndFits}
 use Rattle.type_rows.specs.Holds.{FitsRow, FitsWidth, HoldsRows, IsBelowOnes}
 use Rattle.type_rows.specs.Layout.{item_count, items_of_row}
 use Rattle.type_rows.specs.WordsHeld.{field_bytes, part_bytes}
-use Rattle.type_state.specs.Counted.{FitsSomewhere, IsNoNarrower}
+use Rattle.type_state.specs.Counted.{AreEndsHeld, FitsSomewhere, IsNoNarrower}
 use Rattle.type_state.proofs.Lookups.{found, skipped}
 
 abbrev Entry : Type 0
@@ -29,41 +29,34 @@ below_more_ones old new number le h = let top : 2 ^ old ≤ 2 ^ new = pow_mono {
 below_more : (old new number : ℕ) → old ≤ new → number < 2 ^ old → number < 2 ^ new
 below_more old new number le h = let top : 2 ^ old ≤ 2 ^ new = pow_mono {i = old} {j = new} le in omega arith
 
--- A value fits at an offset at which another value of the field fits.
-beside : (kind : FieldKind) (width end top : ℕ) (value other : Value) → FitsWidth kind width end value → FitsWidth kind width top other → FitsWidth kind width top value
-beside FieldKind.Text width end top value other was last = last
-beside FieldKind.Bytes width end top value other was last = last
-beside (FieldKind.Reference name) width end top Value.Null other was last = tt
-beside (FieldKind.Reference name) width end top (Value.Ref o) other was last = was
-beside (FieldKind.Reference name) width end top _ other was last = absurd was
-beside FieldKind.Int width end top Value.Null other was last = tt
-beside FieldKind.Int width end top (Value.Int n) other was last = was
-beside FieldKind.Int width end top _ other was last = absurd was
-beside FieldKind.Long width end top Value.Null other was last = tt
-beside FieldKind.Long width end top (Value.Long n) other was last = was
-beside FieldKind.Long width end top _ other was last = absurd was
-beside FieldKind.Boolean width end top Value.Null other was last = was
-beside FieldKind.Boolean width end top (Value.Bool flag) other was last = was
-beside FieldKind.Boolean width end top _ other was last = absurd was
+-- A value fits at an end that its element holds.
+reached : (kind : FieldKind) (width end top : ℕ) (value : Value) → EndFits kind width top → FitsWidth kind width end value → FitsWidth kind width top value
+reached FieldKind.Text width end top value held was = held
+reached FieldKind.Bytes width end top value held was = held
+reached (FieldKind.Reference name) width end top Value.Null held was = tt
+reached (FieldKind.Reference name) width end top (Value.Ref o) held was = was
+reached (FieldKind.Reference name) width end top _ held was = absurd was
+reached FieldKind.Int width end top Value.Null held was = tt
+reached FieldKind.Int width end top (Value.Int n) held was = was
+reached FieldKind.Int width end top _ held was = absurd was
+reached FieldKind.Long width end top Value.Null held was = tt
+reached FieldKind.Long width end top (Value.Long n) held was = was
+reached FieldKind.Long width end top _ held was = absurd was
+reached FieldKind.Boolean width end top Value.Null held was = was
+reached FieldKind.Boolean width end top (Value.Bool flag) held was = was
+reached FieldKind.Boolean width end top _ held was = absurd was
 
--- The same of rows.
-pub fits_beside : (shape : Shape) (widths : List ℕ) (ends tops : ℕ → ℕ) (items top : ℕ) (row last : Row) → IsOfKind shape last → FitsRow shape widths ends items row → FitsRow shape widths tops top last → FitsRow shape widths tops top row
-fits_beside (Shape.Object key fields) widths ends tops items top (Row.Object values) (Row.Object others) kind was last =
-    λ f field value gf gv.
-    let inside = slice_get_within fields f field gf in
-    let there = slice_get-get_or others f Value.Null (omega (arith, kind, inside)) in
-    beside field.kind (slice_index widths f) (ends f) (tops f) value (get_or others f Value.Null) (was f field value gf gv) (last f field (get_or others f Value.Null) gf there)
-fits_beside (Shape.Object key fields) widths ends tops items top (Row.Object values) _ kind was last = absurd kind
-fits_beside (Shape.Object key fields) widths ends tops items top _ other kind was last = absurd was
-fits_beside (Shape.List element) widths ends tops items top (Row.List ordinals) (Row.List others) kind was last = record { pointer = last.pointer; elements = was.elements }
-fits_beside (Shape.List element) widths ends tops items top (Row.List ordinals) _ kind was last = absurd kind
-fits_beside (Shape.List element) widths ends tops items top _ other kind was last = absurd was
-fits_beside (Shape.Set element) widths ends tops items top (Row.Set ordinals) (Row.Set others) kind was last = record { pointer = last.pointer; size = was.size; elements = was.elements }
-fits_beside (Shape.Set element) widths ends tops items top (Row.Set ordinals) _ kind was last = absurd kind
-fits_beside (Shape.Set element) widths ends tops items top _ other kind was last = absurd was
-fits_beside (Shape.Map key value) widths ends tops items top (Row.Map pairs) (Row.Map others) kind was last = record { pointer = last.pointer; size = was.size; parts = was.parts }
-fits_beside (Shape.Map key value) widths ends tops items top (Row.Map pairs) _ kind was last = absurd kind
-fits_beside (Shape.Map key value) widths ends tops items top _ other kind was last = absurd was
+-- A row fits where it ends at ends that the widths hold.
+pub fits_where : (shape : Shape) (widths : List ℕ) (ends : ℕ → ℕ) (tops : List ℕ) (items top : ℕ) (row : Row) → AreEndsHeld shape widths tops top → FitsRow shape widths ends items row → FitsRow shape widths (λ f. slice_index tops f) top row
+fits_where (Shape.Object key fields) widths ends tops items top (Row.Object values) held was =
+    λ f field value gf gv. reached field.kind (slice_index widths f) (ends f) (slice_index tops f) value (held f field (slice_get_within fields f field gf) gf) (was f field value gf gv)
+fits_where (Shape.Object key fields) widths ends tops items top _ held was = absurd was
+fits_where (Shape.List element) widths ends tops items top (Row.List ordinals) held was = record { pointer = held; elements = was.elements }
+fits_where (Shape.List element) widths ends tops items top _ held was = absurd was
+fits_where (Shape.Set element) widths ends tops items top (Row.Set ordinals) held was = record { pointer = held; size = was.size; elements = was.elements }
+fits_where (Shape.Set element) widths ends tops items top _ held was = absurd was
+fits_where (Shape.Map key value) widths ends tops items top (Row.Map pairs) held was = record { pointer = held; size = was.size; parts = was.parts }
+fits_where (Shape.Map key value) widths ends tops items top _ held was = absurd was
 
 -- ---- rows of the kinds other than OBJECT, at widths that are no narrower
 

@@ -1,21 +1,21 @@
-//! What rows add up to, where rows come under some ordinals in place of those that stand there.
-ghost use Rattle.std.specs.Prelude.{◌≡◌, ◌^◌, ◌<◌, ◌≤◌, ℕ, All, IfOk, IsTrue, length, map, slice_index};
+//! What rows add up to, where some go and others come.
+ghost use Rattle.std.specs.Prelude.{◌≡◌, ◌^◌, ◌<◌, ◌≤◌, All, IsTrue, length, map};
 ghost use Rattle.std.specs.FinMap.{get};
 ghost use Rattle.std.specs.List.Sorted.{IsStrictlySortedBy};
 ghost use Rattle.std.specs.Map.{keys_of};
 ghost use Rattle.std.specs.Ordering.{nat_cmp};
+ghost use Rattle.row_model.specs.Table.{RowMap};
 ghost use Rattle.schema_model.specs.Parts.{shape_fields};
-ghost use Rattle.type_rows.specs.Layout.{width_count};
 ghost use Rattle.type_rows.specs.Totals.{AreLess};
-ghost use Rattle.type_state.specs.Counted.{AreFitting, AreNothing, IsComing, IsCounted};
+ghost use Rattle.type_state.specs.Counted.{AreFitting, AreFree, AreNothing, IsCounted};
 ghost use Rattle.type_state.specs.Differences.{AreApart, added_of, removal};
 ghost use Rattle.type_state.specs.Leaving.{AreStanding};
 
+use crate::coming::add_row;
 use crate::differences::Differences;
 use crate::leaving::Leaving;
 use crate::packed_rows::PackedRows;
 use column_rows::TypeRows;
-use std::alloc::{AllocError, Global};
 use type_rows::Totals;
 
 /// Whether rows add up to nothing: they have no items and no variable bytes.
@@ -59,34 +59,19 @@ pub(crate) fn take_rows(
     }
 }
 
-/// Counts the rows that a patch adds in place of those that stand under their ordinals. It tells whether each part of them fits its
-/// width and the bytes keep the limit. One row is made at a time.
-pub(crate) fn add_rows(
-    alloc: Global,
-    totals: &mut Totals,
-    widths: &[u32],
-    leaving: &Leaving<'_>,
-    rows: &PackedRows<'_>,
-    differences: &Differences<'_, '_>,
-) -> Result<bool, AllocError>
-    requires widths { length widths.now ≡ width_count differences.now.schema.now.shape }
-    requires narrow { (part : ℕ) → slice_index widths.now part ≤ 64 }
+/// Counts the rows that a patch adds, where they stand in it; no row stands under their ordinals. It tells whether each part of them fits its width
+/// in the patch, and the bytes keep the limit.
+pub(crate) fn add_rows(totals: &mut Totals, differences: &Differences<'_, '_>) -> bool
     requires long { length totals.old.ends.offsets.items ≡ length (shape_fields differences.now.schema.now.shape) }
-    requires standing { AreStanding rows.now.rows leaving.now }
-    requires enough { length leaving.now.columns.items ≤ length (shape_fields differences.now.schema.now.shape) }
-    requires coming { All (IsComing differences.now.schema.now.shape) (added_of differences.now) }
     requires apart { AreApart differences.now }
-    ensures counted { IfOk result (λ fit. IsTrue fit → IsCounted rows.now.rows (added_of differences.now) totals.old totals.new) }
-    ensures fits { IfOk result (λ fit. IsTrue fit → AreFitting differences.now.schema.now.shape widths.now (added_of differences.now)) }
-    ensures long { IfOk result (λ fit. IsTrue fit → length totals.new.ends.offsets.items ≡ length totals.old.ends.offsets.items) }
+    ensures counted { IsTrue result → (rows : RowMap) → AreFree rows differences.now.patch.now.added → IsCounted rows (added_of differences.now) totals.old totals.new }
+    ensures fits { IsTrue result → AreFitting differences.now.schema.now.shape differences.now.patch.now.widths (added_of differences.now) }
+    ensures long { IsTrue result → length totals.new.ends.offsets.items ≡ length totals.old.ends.offsets.items }
 {
-    let shape = &differences.schema.shape;
-    for (place, ordinal) in differences.patch.added.as_slice().iter().enumerate() {
-        take_under(totals, leaving, rows, *ordinal as u32);
-        let row = differences.row(alloc, place as u64)?;
-        if !totals.add(shape, widths, &row) {
-            return Ok(false);
+    for place in 0..differences.patch.added.len() {
+        if !add_row(totals, differences, place as u64) {
+            return false;
         }
     }
-    Ok(true)
+    true
 }

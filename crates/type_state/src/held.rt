@@ -8,7 +8,9 @@ ghost use Rattle.type_rows.specs.Layout.{width_count};
 ghost use Rattle.type_rows.specs.Holds.{HoldsRows};
 ghost use Rattle.type_rows.specs.Ends.{AreOfKind, IsOfKind};
 ghost use Rattle.type_rows.specs.Outline.{layout_at};
+ghost use Rattle.type_rows.specs.Patches.{patch_layout};
 ghost use Rattle.type_rows.specs.Totals.{AreTotals};
+ghost use Rattle.type_state.specs.Counted.{AreFree};
 ghost use Rattle.type_state.specs.Differences.{AreApart, rows_with};
 ghost use Rattle.type_state.specs.FirstFaults.{FailsHeld, FailsSlot};
 ghost use Rattle.type_state.specs.Moving.{AreLaidOut, IsHeld, LaysSlot};
@@ -17,7 +19,7 @@ use crate::change::totals_by_change;
 use crate::packed_rows::PackedRows;
 use crate::planning::Plan;
 use row_model::Row;
-use schema_model::{Limit, MAX_BYTES, MAX_WORDS, Reason, Schema, Shape};
+use schema_model::{Limit, MAX_BYTES, MAX_WORDS, Reason, Shape};
 use std::alloc::Global;
 use type_rows::{Ends, MOST_ITEMS, RowFault, Totals, counted_words, row_len};
 
@@ -122,6 +124,8 @@ pub(crate) fn test_held(
     requires before { AreOfKind next.now.differences.schema.now.shape rows.now.rows }
     requires kinds { AreOfKind next.now.differences.schema.now.shape (rows_with rows.now.rows next.now.differences) }
     requires apart { AreApart next.now.differences }
+    requires free { AreFree rows.now.rows next.now.differences.patch.now.added }
+    requires layout { layout_at next.now.outline ≡ patch_layout next.now.differences.patch.now }
     requires bound { next.now.outline.bound ≡ bound_of (keys (rows_with rows.now.rows next.now.differences)) }
     requires held { HoldsRows next.now.differences.schema.now.shape rows.now.widths [] (values rows.now.rows) }
     ensures tells { MatchResult result (λ _. IsHeld next.now.differences.schema.now.shape next.now.own (layout_at next.now.outline) (rows_with rows.now.rows next.now.differences)) (FailsHeld next.now.differences.schema.now.shape next.now.own (layout_at next.now.outline) (rows_with rows.now.rows next.now.differences)) }

@@ -4,6 +4,7 @@
 mod added;
 mod change;
 mod columns;
+mod coming;
 mod copied_rows;
 mod counting;
 mod differences;
