@@ -89,7 +89,9 @@ def begun(folder):
 
 
 def publish(folder, states):
-    """Publishes states. A run that ended, or that may take no line more, is followed by a new one."""
+    """Publishes states. A run that ended, or that may take no line more, is followed by a new one. A refused cycle ends it."""
+    if not os.path.isdir(folder):
+        sys.exit(f"service.py: there is no folder {folder}")
     run = None
     while states > 0:
         try:
@@ -103,6 +105,8 @@ def publish(folder, states):
             print(answer, flush=True)
             if answer.get("name") == "NotLast":
                 sys.exit("service.py: another version was announced meanwhile")
+            if "ok" not in answer:
+                sys.exit("service.py: the cycle was refused")
             states -= 1
         except Ended as fault:
             print(f"service.py: {fault}; once more in 5 seconds", file=sys.stderr)
@@ -115,17 +119,26 @@ def publish(folder, states):
 # The consumer.
 
 
-def way(folder, now, goal):
-    """The versions from now to goal by the deltas of the folder, the fewest steps; none where there is no way."""
-    steps = [versions for _, versions in blobs(folder) if len(versions) == 2]
-    ways, seen = [[now]], {now}
-    for path in ways:
-        if path[-1] == goal:
-            return path
-        for start, end in steps:
-            if start == path[-1] and end not in seen:
-                seen.add(end)
-                ways.append(path + [end])
+def ways(folder, goal):
+    """Of each version from which deltas lead to goal, the next one on the shortest way. Those with the shortest ways come first."""
+    starts, after, turn = {}, {goal: None}, [goal]
+    for _, versions in blobs(folder):
+        if len(versions) == 2:
+            starts.setdefault(versions[1], []).append(versions[0])
+    for end in turn:
+        for start in starts.get(end, []):
+            if start not in after:
+                after[start] = end
+                turn.append(start)
+    return after
+
+
+def way(after, now):
+    """The versions from now to the goal of these ways; none where no way leads there."""
+    path = [now] if now in after else []
+    while path and after[path[-1]] is not None:
+        path.append(after[path[-1]])
+    return path
 
 
 def steps(run, path):
@@ -145,17 +158,18 @@ def indexed(run):
 
 
 def go(run, folder, now, goal):
-    """Moves the consumer: by steps, which keep the indexes; else by `goto`; else by a snapshot, the nearest one first, and steps. How; none where no
-    way leads there, and then it stands somewhere on the last one."""
-    path = way(folder, now, goal)
+    """Moves the consumer: by steps, which keep the indexes; else by `goto`; else by a snapshot and steps, the fewest first. How; none where no way
+    leads there, and then it stands somewhere on the last one."""
+    after = ways(folder, goal)
+    path = way(after, now)
     if path and steps(run, path):
         return "by steps " + str(path)
     if goes(run, goal) and indexed(run):
         return "by goto"
-    starts = [versions[0] for _, versions in blobs(folder) if len(versions) == 1]
-    for start in sorted(starts, key=lambda version: abs(version - goal)):
-        path = way(folder, start, goal)
-        if path and "ok" in run.ask({"load": start}) and indexed(run) and steps(run, path):
+    snapshots = {versions[0] for _, versions in blobs(folder) if len(versions) == 1}
+    for start in filter(snapshots.__contains__, after):
+        path = way(after, start)
+        if "ok" in run.ask({"load": start}) and indexed(run) and steps(run, path):
             return f"by a load of {start} and steps {path}"
 
 
@@ -174,7 +188,7 @@ def follow(folder, seconds):
                 now = goal if how else None
                 found = sum("ok" in run.ask({"get": ["Product", [number]]}) for number in range(1000))
                 print(f"version {goal} {how or 'not reached'}: {found} of 1000 products found", flush=True)
-            time.sleep(0.2)
+            time.sleep(1 if goal and now is None else 0.2)  # a second behind "not reached"
         except Ended as fault:
             print(f"service.py: {fault}; once more in 5 seconds", file=sys.stderr)
             run = None

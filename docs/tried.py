@@ -26,8 +26,7 @@ NOT_RUN = [
     ("README", "producer.add(", "calls of the library, which crates/library_example has"),
     ("ORDERS", "hollow FOLDER head NAME", "forms of the commands"),
     ("ORDERS", '{"kind":"OBJECT","name":N,', "forms of a schema"),
-    ("RUNNING", "run.ask(", "Python, a line for docs/service.py"),
-    ("RUNNING", "answer = run.ask(", "Python, of docs/service.py"),
+    ("RUNNING", "answer = run.ask(", "Python, of docs/service.py and for it"),
     ("RUNNING", "$ cp shop/announced.version", "it asks for rsync, which not each machine has"),
 ]
 # Nor is the run of RUNNING killed: what it leaves is made (BEFORE).
@@ -207,7 +206,7 @@ def try_all(program):
                 wanted, got = wanted[:-1], got[:len(wanted) - 1]
             for _, _, part, _ in found(NOT_COMPARED, step.document, step.line):
                 wanted, got = ([re.sub(part, "", "\n".join(text))] for text in (wanted, got))
-            kept += command + "\n" if re.match(r"\w+=", command) else ""
+            kept += command + "\n" if re.match(r"\w+=|while ", command) else ""
             if step.line:
                 commands += bool(step.command)
                 orders += len(step.pairs or orders_of(step))
